@@ -1,0 +1,103 @@
+ghost use Rattle.std.specs.Prelude.{◌≡◌, ◌==◌, IfOk, true};
+ghost use Rattle.std.specs.Cmp.Lexicographic.{pointwise};
+ghost use Rattle.std.specs.Cmp.Rules.{comparing, hashing};
+ghost use Rattle.std.specs.Hash as fed;
+ghost use Rattle.std.specs.List.{list_all};
+ghost use Rattle.std.proofs.Common.{rules};
+ghost use Rattle.music_base.specs.Names.{is_name, begins_name, is_in_names};
+
+use crate::{NoMemory, TryCopy};
+use std::alloc::Global;
+use std::hash::{Hash, Hasher};
+use std::marker::Model;
+
+/// The name of an application, a port or a setting: 1 to 64 letters, digits and `_`, of which the first is no digit.
+/// Contracts see its bytes.
+#[derive(Debug, Drop)]
+pub struct Name {
+    bytes: Vec<u8>,
+}
+
+impl Model for Name {
+    ghost use Rattle.std.specs.Prelude.{List, ℕ, ◌≡◌, true};
+    ghost use Rattle.music_base.specs.Names.{is_name};
+
+    ghost Value = { List ℕ };
+
+    ghost view = { λ name. name.bytes.items };
+
+    ghost invariant = { λ name. is_name name.bytes.items ≡ true };
+}
+
+fn begins_name(byte: u8) -> bool
+    ensures { result ≡ begins_name byte }
+{
+    byte.is_ascii_alphabetic() || byte == b'_'
+}
+
+fn is_in_names(byte: u8) -> bool
+    ensures { result ≡ is_in_names byte }
+{
+    byte.is_ascii_alphanumeric() || byte == b'_'
+}
+
+fn are_in_names(bytes: &[u8]) -> bool
+    ensures { result ≡ list_all is_in_names bytes.now }
+{
+    bytes.iter().all(|b| is_in_names(*b))
+}
+
+/// Whether the bytes are a name.
+pub fn is_name(bytes: &[u8]) -> bool
+    ensures { result ≡ is_name bytes.now }
+{
+    1 <= bytes.len() && bytes.len() <= 64 && begins_name(bytes[0]) && are_in_names(bytes)
+}
+
+impl Name {
+    /// The name of these bytes, which `is_name` has to have found to be one.
+    pub fn from_slice(alloc: Global, bytes: &[u8]) -> Result<Name, NoMemory>
+        requires { is_name bytes.now ≡ true }
+        ensures { IfOk result (λ name. name ≡ bytes.now) }
+    {
+        let bytes = Vec::from_slice(alloc, bytes)?;
+        Ok(Name { bytes })
+    }
+
+    pub fn as_slice(&self) -> &[u8]
+        ensures bytes { result.now ≡ self.now }
+        ensures name { is_name self.now ≡ true }
+    {
+        self.bytes.as_slice()
+    }
+}
+
+impl TryCopy for Name {
+    fn copy(&self, alloc: Global) -> Result<Name, NoMemory> {
+        Name::from_slice(alloc, self.as_slice())
+    }
+}
+
+impl PartialEq for Name {
+    ghost eq = { pointwise ◌==◌ };
+
+    ghost laws = { Prim.search (comparing, rules) };
+
+    fn eq(&self, other: &Name) -> bool {
+        self.bytes.as_slice() == other.bytes.as_slice()
+    }
+}
+
+impl Eq for Name {
+    ghost laws = { Prim.search (comparing, rules) };
+}
+
+impl Hash for Name {
+    ghost hash_input = { λ name. fed.slice fed.u8 name };
+
+    ghost respects_eq = { Prim.search (hashing, rules) };
+
+    fn hash<H: Hasher>(&self, state: &mut H) {
+        self.bytes.as_slice().hash(state);
+    }
+}
