@@ -1,0 +1,13 @@
+pub mod Counting
+pub mod DigitValues
+pub mod Divisions
+pub mod FirstPlaces
+pub mod Fraction
+pub mod Lists
+pub mod Ordered
+pub mod Scaling
+pub mod TimeForm
+pub mod TimeLaws
+pub mod TimeSpelling
+pub mod Transfers
+pub mod WrittenTimes

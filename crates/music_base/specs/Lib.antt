@@ -1,1 +1,10 @@
+pub mod Causes
+pub mod Clocks
+pub mod InMemory
 pub mod Names
+pub mod Numbers
+pub mod Outside
+pub mod Standard
+pub mod Times
+pub mod TimeTexts
+pub mod Wants

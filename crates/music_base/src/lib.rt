@@ -2,18 +2,44 @@
 //! text, and the outside that bytes come from and go to.
 #![tactic(auto)]
 
+mod arithmetic;
+mod clocks;
 mod copying;
 mod errors;
+mod gate;
 mod item;
 mod list;
+mod memory_sink;
+mod memory_source;
 mod name;
 mod numbers;
+mod outside;
+mod standard;
+mod streams;
+mod time_laws;
+mod time_parts;
+mod time_scale;
+mod time_writing;
+mod times;
+mod wants;
 mod word;
 
+pub use arithmetic::{floor_to, gcd};
+pub use clocks::{due, steps_of};
 pub use copying::{TryCopy, copy_all};
 pub use errors::{Failed, NoMemory};
+pub use gate::{FreeGate, Gate};
 pub use item::{Block, Event, Item, Message};
 pub use list::Items;
+pub use memory_sink::MemorySink;
+pub use memory_source::MemorySource;
 pub use name::{Name, is_name};
 pub use numbers::{AppId, LinkId, Nanos, PortId, Rank, Sample};
+pub use outside::{Sink, Source};
+pub use standard::{StdSink, StdSource};
+pub use streams::{MOST_READ, ReadFault, read_all, write_all};
+pub use time_laws::{times_are_as_spelled, worked_times};
+pub use time_writing::write_time;
+pub use times::{TimeFault, read_time};
+pub use wants::wanted;
 pub use word::Word;

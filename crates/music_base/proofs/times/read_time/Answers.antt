@@ -1,0 +1,13 @@
+use Rattle.std.proofs.Common.{refl}
+use Rattle.music_base.specs.Times.{time_value}
+use Rattle.music_base.proofs.times.read_time.Goals as goal
+
+pub returns-then-not-is_time_text : goal.returns-then-not-is_time_text
+unfolding time_value
+returns-then-not-is_time_text c = record { value = rw (← c.is_time_text.ensures, c.if-not-is_time_text.true) refl }
+
+pub returns : goal.returns
+unfolding time_value
+returns c = record {
+  value = rw (← c.is_time_text.ensures, c.if-not-is_time_text.false, ← c.digits_of.ensures.value, ← c.raised.ensures, ← c.lowered.ensures) c.scaled.ensures;
+}
