@@ -1,0 +1,15 @@
+//! Index maps: which global indices the ranks of a port map, and at which local places.
+//!
+//! A global index is shared by all applications, a local place belongs to one rank. A map is linear, of consecutive
+//! indices, or a permutation, a list of indices in any order.
+#![tactic(auto)]
+
+mod laws;
+mod list;
+mod map;
+mod span;
+
+pub use laws::maps_compute;
+pub use list::IndexList;
+pub use map::{IndexMap, PortMap};
+pub use span::{INDEX_LIMIT, Span};
