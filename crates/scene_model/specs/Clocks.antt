@@ -1,0 +1,73 @@
+-- Steps and clocks, due steps, and the blocks that a step wants. All times are in ns.
+use Rattle.std.specs.Prelude.{ℕ, zero, suc, ◌+◌, ◌*◌, ◌/◌, Bool, true, false, int_lt, ℤ, pos, ◌+ℤ◌, ◌-ℤ◌}
+use Rattle.std.specs.Int.{div_ceil}
+use Rattle.music_base.specs.Numbers.{count_below}
+use Rattle.scene_model.specs.Scenes.{app_at, sender, receiver, input_of}
+use Rattle.scene_model.specs.declared.scene.Scene.{Scene}
+use Rattle.scene_model.specs.declared.port.PortKind.{PortKind}
+use Rattle.scene_model.specs.declared.port.PortKind.TheVariants.{Events, Values, Messages}
+
+-- ---- clocks
+
+unfoldable pub tick : Scene → ℕ → ℕ
+tick scene a = (app_at scene a).tick
+
+-- how many steps an application runs: each whose clock is below the stop
+unfoldable pub steps : Scene → ℕ → ℕ
+steps scene a = div_ceil scene.stop (tick scene a)
+
+-- the time that s steps take
+abbrev pub run_time : Scene → ℕ → ℕ → ℕ
+run_time scene a s = s * tick scene a
+
+-- the clock of an application after s steps, at which its step s runs
+abbrev pub clock : Scene → ℕ → ℕ → ℕ
+clock scene a s = run_time scene a s
+
+-- ---- delivery
+
+-- the latency of a connection, for events and messages
+unfoldable pub latency : Scene → ℕ → ℕ
+latency scene c = (input_of scene c).latency
+
+-- the delay of a connection, for continuous values
+unfoldable pub delay : Scene → ℕ → ℕ
+delay scene c = (input_of scene c).delay
+
+-- the step in which an event or a message of this time is due: the last one whose clock is not later than the time
+-- and the latency together
+unfoldable pub due : Scene → ℕ → ℕ → ℕ
+due scene c time = (time + latency scene c) / tick scene (receiver scene c)
+
+-- ---- wanted blocks
+
+-- how much later than its sender's clock a block may come. Events and messages may come as late as their latency. A
+-- value that is held is wanted once its own clock has come, and one that is interpolated a tick of the sender before
+abbrev pub allowance_by : PortKind → Bool → ℕ → ℕ → ℕ → ℕ → ℤ
+allowance_by Events interpolate latency delay send_tick receive_tick = pos latency
+allowance_by Messages interpolate latency delay send_tick receive_tick = pos latency
+allowance_by Values true latency delay send_tick receive_tick = pos (delay + receive_tick) -ℤ pos send_tick
+allowance_by Values false latency delay send_tick receive_tick = pos (delay + receive_tick) -ℤ pos 1
+
+-- the allowance of a connection, which may be negative
+unfoldable pub allowance : Scene → ℕ → ℤ
+allowance scene c =
+    let input = input_of scene c in
+    allowance_by input.kind input.interpolate (latency scene c) (delay scene c) (tick scene (sender scene c)) (tick scene (receiver scene c))
+
+-- step j of the receiver wants block k: its clock and the allowance together lie before the end of step j
+abbrev pub wants : Scene → ℕ → ℕ → ℕ → Bool
+wants scene c j k = int_lt (pos (run_time scene (sender scene c) k) +ℤ allowance scene c) (pos (run_time scene (receiver scene c) (suc j)))
+
+-- how many blocks step j wants, of those that the sender makes. They are the first ones
+unfoldable pub wanted : Scene → ℕ → ℕ → ℕ
+wanted scene c j = count_below (steps scene (sender scene c)) (wants scene c j)
+
+-- how many blocks the steps before step j want
+abbrev pub wanted_before : Scene → ℕ → ℕ → ℕ
+wanted_before scene c zero = 0
+wanted_before scene c (suc j) = wanted scene c j
+
+-- how many blocks some step of the receiver wants
+abbrev pub wanted_blocks : Scene → ℕ → ℕ
+wanted_blocks scene c = wanted_before scene c (steps scene (receiver scene c))

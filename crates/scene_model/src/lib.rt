@@ -1,0 +1,20 @@
+//! Scenes, as plain data, and the model of what happens in one.
+//!
+//! The model stands in specs/: clocks, the table of what every application's steps put out, what a step of an input
+//! reads of it, the turn that an application's rules make of that, the one history of a scene, and its log. No buffer,
+//! route or worker stands in it. Whatever runs a scene is held to it.
+#![tactic(auto)]
+
+mod laws;
+mod port;
+mod row;
+mod rule;
+mod scene;
+mod time_laws;
+
+pub use laws::{worked_events_hold, worked_log_holds, worked_turns_hold, worked_values_hold};
+pub use port::{Direction, PortDecl, PortKind};
+pub use row::{Row, RowItem};
+pub use rule::Rule;
+pub use scene::{AppDecl, Link, Scene};
+pub use time_laws::times_are_periods_apart;
