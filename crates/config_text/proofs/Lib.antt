@@ -1,0 +1,4 @@
+pub mod Cutting
+pub mod Counts
+pub mod NoLines
+pub mod Times

@@ -1,0 +1,173 @@
+-- The lines of the first form, each by what it says.
+use Rattle.std.specs.Prelude.{ℕ, ◌+◌, ◌*◌, ◌/◌, Bool, ◌&&◌, not, nat_le, nat_lt, nat_eq, List, length, Option, Some, None, bytes_eq, codes}
+use Rattle.std.specs.Str.{byte}
+use Rattle.music_base.specs.Clocks.{steps_until}
+use Rattle.config_text.specs.FormWords.{◌when◌, cut_at, behind, name_in, count_up_to, time_in}
+
+-- the steps read on with the next word; where one is missing nothing is said
+infixl 10 ◌>>=◌
+abbrev pub ◌>>=◌ : {A B : Type 0} → Option A → (A → Option B) → Option B
+None >>= f = None
+(Some x) >>= f = f x
+
+-- ---- limits
+
+abbrev pub longest_tick : ℕ
+longest_tick = 1000000000000
+
+abbrev pub most_steps : ℕ
+most_steps = 1000000
+
+abbrev pub most_periods : ℕ
+most_periods = 1000000
+
+-- one more than the greatest index, and the greatest width
+abbrev pub most_indices : ℕ
+most_indices = 65536
+
+abbrev pub greatest_index : ℕ
+greatest_index = 65535
+
+-- ---- sections
+
+-- [NAME]
+unfoldable pub section_line : List ℕ → Option (List ℕ)
+section_line line = do
+  text ← behind (codes "[") line
+  parts ← cut_at (byte "]") text
+  name ← name_in parts.0
+  name when nat_eq (length parts.1) 0
+
+-- [NAME], with another name
+unfoldable pub other_section_line : List ℕ → List ℕ → Option (List ℕ)
+other_section_line other line = do
+  name ← section_line line
+  name when not (bytes_eq name other)
+
+-- ---- times
+
+-- stoptime=TIME
+unfoldable pub stop_line : List ℕ → Option ℕ
+stop_line line = do
+  text ← behind (codes "stoptime=") line
+  time_in text
+
+-- a tick of 1 ns or more, not too long, with which the application does not run too many steps
+unfoldable pub is_tick : ℕ → ℕ → Bool
+is_tick stop tick = nat_le 1 tick && nat_le tick longest_tick && nat_le (steps_until stop tick) most_steps
+
+-- timestep=TIME
+unfoldable pub tick_line : ℕ → List ℕ → Option ℕ
+tick_line stop line = do
+  text ← behind (codes "timestep=") line
+  tick ← time_in text
+  tick when is_tick stop tick
+
+-- ---- ports
+
+-- a port's name, and the indices that it maps: the size many from the base on
+pub record PortLine : Type 0 where
+  pub name : List ℕ
+  pub base : ℕ
+  pub size : ℕ
+
+-- NAME B+N behind the front
+unfoldable pub port_line : List ℕ → List ℕ → Option PortLine
+port_line front line = do
+  text ← behind front line
+  words ← cut_at (byte " ") text
+  name ← name_in words.0
+  map ← cut_at (byte "+") words.1
+  base ← count_up_to most_indices map.0
+  size ← count_up_to most_indices map.1
+  (record { name = name; base = base; size = size }) when nat_le (base + size) most_indices
+
+-- ---- the rule
+
+-- every TIME from TIME
+unfoldable pub emit_times : List ℕ → Option (ℕ × ℕ)
+emit_times text = do
+  text ← behind (codes "every ") text
+  words ← cut_at (byte " ") text
+  every ← time_in words.0
+  text ← behind (codes "from ") words.1
+  first ← time_in text
+  Some (every, first)
+
+-- the index is one that a port of this base and size maps
+unfoldable pub maps : ℕ → ℕ → ℕ → Bool
+maps base size index = nat_le base index && nat_lt index (base + size)
+
+-- how many periods end until the application's end
+abbrev pub periods : ℕ → ℕ → ℕ → ℕ
+periods stop tick every = steps_until stop tick * tick / every
+
+-- a period of 1 ns or more, of which not too many end until the application's end
+unfoldable pub is_period : ℕ → ℕ → ℕ → Bool
+is_period stop tick every = nat_le 1 every && nat_le (periods stop tick every) most_periods
+
+-- emits at the index, at the first time and then once in each period
+pub record RuleLine : Type 0 where
+  pub index : ℕ
+  pub every : ℕ
+  pub first : ℕ
+
+-- args=emit NAME INDEX every TIME from TIME, of this port, at an index that it maps, and not too fast
+unfoldable pub rule_line : ℕ → ℕ → PortLine → List ℕ → Option RuleLine
+rule_line stop tick out line = do
+  text ← behind (codes "args=emit ") line
+  words ← cut_at (byte " ") text
+  port ← name_in words.0
+  words ← cut_at (byte " ") words.1
+  index ← count_up_to greatest_index words.0
+  times ← emit_times words.1
+  (record { index = index; every = times.0; first = times.1 })
+      when (bytes_eq port out.name && maps out.base out.size index && is_period stop tick times.0)
+
+-- ---- the connection
+
+-- from an application's port to another's, so many indices wide
+pub record LinkLine : Type 0 where
+  pub from : List ℕ
+  pub from_port : List ℕ
+  pub to : List ℕ
+  pub to_port : List ℕ
+  pub width : ℕ
+
+-- NAME.NAME and a space, and what stands behind them
+unfoldable pub end_in : List ℕ → Option (List ℕ × List ℕ × List ℕ)
+end_in text = do
+  parts ← cut_at (byte ".") text
+  app ← name_in parts.0
+  words ← cut_at (byte " ") parts.1
+  port ← name_in words.0
+  Some (app, port, words.1)
+
+-- [WIDTH]
+unfoldable pub width_in : List ℕ → Option ℕ
+width_in text = do
+  inner ← behind (codes "[") text
+  parts ← cut_at (byte "]") inner
+  width ← count_up_to most_indices parts.0
+  width when (nat_eq (length parts.1) 0 && nat_le 1 width)
+
+-- NAME.NAME -> NAME.NAME [WIDTH]
+unfoldable pub link_line : List ℕ → Option LinkLine
+link_line line = do
+  from ← end_in line
+  right ← behind (codes "-> ") from.2
+  to ← end_in right
+  width ← width_in to.2
+  Some (record { from = from.0; from_port = from.1; to = to.0; to_port = to.1; width = width })
+
+-- the connection goes from the one application's port to the other's, and is as wide as both
+unfoldable pub link_fits : List ℕ → PortLine → List ℕ → PortLine → LinkLine → Bool
+link_fits from out to input link = bytes_eq link.from from && bytes_eq link.from_port out.name
+    && bytes_eq link.to to && bytes_eq link.to_port input.name
+    && nat_le (out.base + out.size) link.width && nat_le (input.base + input.size) link.width
+
+-- the width of a connection that fits
+unfoldable pub width_line : List ℕ → PortLine → List ℕ → PortLine → List ℕ → Option ℕ
+width_line from out to input line = do
+  link ← link_line line
+  link.width when link_fits from out to input link

@@ -1,0 +1,41 @@
+-- The words of a line of the first form, each read from the front of what is left.
+use Rattle.std.specs.Prelude.{ℕ, ◌+◌, Bool, ◌&&◌, ◌==◌, nat_le, if◌then◌else◌, List, length, take, drop, Option, Some, None, option_map, bytes_eq}
+use Rattle.std.specs.Char.{is_ascii_digit}
+use Rattle.std.specs.List.{list_all, position}
+use Rattle.std.specs.Result.{result_ok}
+use Rattle.std.specs.Str.Parse.{digits_value}
+use Rattle.music_base.specs.Names.{is_name}
+use Rattle.music_base.specs.Times.{time_value}
+
+-- the value, where the test holds
+infix 3 ◌when◌
+abbrev pub ◌when◌ : {A : Type 0} → A → Bool → Option A
+x when test = if test then Some x else None
+
+-- what stands before the first such byte, and what stands after it
+abbrev pub cut_at : ℕ → List ℕ → Option (List ℕ × List ℕ)
+cut_at byte text = option_map (λ at. (take at text, drop (at + 1) text)) (position (λ b. b == byte) text)
+
+-- what stands behind the front, which has to be this one
+abbrev pub behind : List ℕ → List ℕ → Option (List ℕ)
+behind front text = drop (length front) text when bytes_eq (take (length front) text) front
+
+-- NAME
+abbrev pub name_in : List ℕ → Option (List ℕ)
+name_in text = text when is_name text
+
+-- one decimal digit or more; leading zeros are accepted
+abbrev pub is_count : List ℕ → Bool
+is_count text = nat_le 1 (length text) && list_all is_ascii_digit text
+
+-- the number that digits write, where it is at most so much
+abbrev pub value_up_to : ℕ → List ℕ → Option ℕ
+value_up_to most digits = digits_value 10 digits when nat_le (digits_value 10 digits) most
+
+-- a count of at most so much
+abbrev pub count_up_to : ℕ → List ℕ → Option ℕ
+count_up_to most text = if is_count text then value_up_to most text else None
+
+-- TIME, in nanoseconds
+abbrev pub time_in : List ℕ → Option ℕ
+time_in text = result_ok (time_value text)
