@@ -1,0 +1,3 @@
+mod History
+mod Rows
+mod Counts

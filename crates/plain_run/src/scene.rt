@@ -1,0 +1,122 @@
+ghost use Rattle.std.specs.Prelude.{◌≡◌, IfOk};
+ghost use Rattle.config_text.specs.LawfulForm.{IsSpan, IsLawfulForm};
+ghost use Rattle.plain_run.specs.Plain.{event_port, source, sink, scene_of};
+
+use config_text::FirstForm;
+use index_maps::{IndexMap, PortMap, Span};
+use music_base::{AppId, Items, Name, Nanos, NoMemory, PortId, TryCopy};
+use scene_model::{AppDecl, Direction, Link, PortDecl, PortKind, Rule, Scene};
+use std::alloc::Global;
+
+/// The source's and the sink's places in the scene. Each has the one port 0.
+pub(crate) const SOURCE: AppId = AppId(0);
+
+pub(crate) const SINK: AppId = AppId(1);
+
+pub(crate) const PORT: PortId = PortId(0);
+
+#[tactic(auto, unfolding(crate::specs::Plain::event_port))]
+fn event_port(
+    alloc: Global,
+    direction: Direction,
+    name: &Name,
+    base: u32,
+    size: u32,
+) -> Result<PortDecl, NoMemory>
+    requires { IsSpan base size }
+    ensures { IfOk result (λ port. port ≡ event_port direction name.now base size) }
+{
+    let name = name.copy(alloc)?;
+    let mut maps = Items::new(alloc);
+    maps.push(IndexMap::Linear(Span::new(base, size)))?;
+    Ok(PortDecl {
+        name,
+        direction,
+        kind: PortKind::Events,
+        map: PortMap::Each(maps),
+        latency: Nanos(0),
+        delay: Nanos(0),
+        interpolate: true,
+        buffered: None,
+    })
+}
+
+#[tactic(auto, unfolding(crate::specs::Plain::source))]
+fn source(alloc: Global, form: &FirstForm) -> Result<AppDecl, NoMemory>
+    requires { IsSpan form.now.from_base form.now.from_size }
+    ensures { IfOk result (λ app. app ≡ source form.now) }
+{
+    let name = form.from.copy(alloc)?;
+    let mut ports = Items::new(alloc);
+    ports.push(event_port(
+        alloc,
+        Direction::Output,
+        &form.from_port,
+        form.from_base,
+        form.from_size,
+    )?)?;
+    let port = form.from_port.copy(alloc)?;
+    let mut rules = Items::new(alloc);
+    rules.push(Rule::EmitEvery {
+        port,
+        index: form.index,
+        every: form.every,
+        first: form.first,
+    })?;
+    Ok(AppDecl {
+        name,
+        np: 1,
+        tick: form.from_tick,
+        ports,
+        rules,
+    })
+}
+
+#[tactic(auto, unfolding(crate::specs::Plain::sink))]
+fn sink(alloc: Global, form: &FirstForm) -> Result<AppDecl, NoMemory>
+    requires { IsSpan form.now.to_base form.now.to_size }
+    ensures { IfOk result (λ app. app ≡ sink form.now) }
+{
+    let name = form.to.copy(alloc)?;
+    let mut ports = Items::new(alloc);
+    ports.push(event_port(
+        alloc,
+        Direction::Input,
+        &form.to_port,
+        form.to_base,
+        form.to_size,
+    )?)?;
+    let rules = Items::new(alloc);
+    Ok(AppDecl {
+        name,
+        np: 1,
+        tick: form.to_tick,
+        ports,
+        rules,
+    })
+}
+
+/// The scene that a first form stands for: the source, which emits by its one rule, the sink, and the connection from
+/// the one's output to the other's input, at which no latency is stated.
+#[tactic(auto, unfolding(crate::specs::Plain::scene_of))]
+pub fn scene_of(alloc: Global, form: &FirstForm) -> Result<Scene, NoMemory>
+    requires { IsLawfulForm form.now }
+    ensures { IfOk result (λ scene. scene ≡ scene_of form.now) }
+{
+    let mut apps = Items::new(alloc);
+    apps.push(source(alloc, form)?)?;
+    apps.push(sink(alloc, form)?)?;
+    let mut links = Items::new(alloc);
+    links.push(Link {
+        from_app: SOURCE,
+        from_port: PORT,
+        to_app: SINK,
+        to_port: PORT,
+        width: Some(form.width),
+    })?;
+    Ok(Scene {
+        stop: form.stop,
+        apps,
+        links,
+    })
+}
