@@ -1,0 +1,87 @@
+//! Whole logs, written to a sink.
+ghost use Rattle.std.specs.Prelude.{◌≡◌, ◌≤◌, OnOk, IsErrOf, true};
+ghost use Rattle.std.specs.List.{flat_map, list_all};
+ghost use Rattle.music_base.specs.Causes.{Rose};
+ghost use Rattle.music_base.specs.Outside.{Took, TookPrefix};
+ghost use Rattle.scene_model.specs.Logs.{header, is_writable, line_of, text_of};
+
+use crate::lines::lines_of;
+use music_base::{Sink, write_all};
+use scene_model::{Row, Scene};
+use std::alloc::Global;
+
+// The rows whose lines are made and written together.
+const BATCH: usize = 1024;
+
+/// Why a log was not written whole.
+#[derive(Clone, Copy, Debug, PartialEq, Eq)]
+pub enum WriteFault {
+    /// The sink failed in this call.
+    Sink,
+    /// Memory was asked for and not found.
+    Memory,
+}
+
+/// The names of the nine columns.
+#[tactic(auto, unfolding(scene_model::specs::Logs::header))]
+fn header() -> &'static [u8]
+    ensures { result.now ≡ header }
+{
+    b"clock,app,port,kind,rank,local,global,time,value\n"
+}
+
+fn write_text<K: Sink>(sink: &mut K, text: &[u8]) -> Result<(), WriteFault>
+    ensures all { OnOk result (Took (K.taken sink.old) text.now (K.taken sink.new)) }
+    ensures prefix { TookPrefix (K.taken sink.old) text.now (K.taken sink.new) }
+    ensures cause { IsErrOf result WriteFault.Sink → Rose (K.faults sink.old) (K.faults sink.new) }
+    ensures never_falls { K.faults sink.old ≤ K.faults sink.new }
+{
+    match write_all(sink, text) {
+        Ok(()) => Ok(()),
+        Err(_) => Err(WriteFault::Sink),
+    }
+}
+
+// Writes the lines of the rows, batch by batch.
+fn write_lines<K: Sink>(
+    alloc: Global,
+    scene: &Scene,
+    rows: &[Row],
+    sink: &mut K,
+) -> Result<(), WriteFault>
+    requires { list_all (is_writable scene.now) rows.now ≡ true }
+    ensures all { OnOk result (Took (K.taken sink.old) (flat_map (line_of scene.now) rows.now) (K.taken sink.new)) }
+    ensures prefix { TookPrefix (K.taken sink.old) (flat_map (line_of scene.now) rows.now) (K.taken sink.new) }
+    ensures cause { IsErrOf result WriteFault.Sink → Rose (K.faults sink.old) (K.faults sink.new) }
+    ensures never_falls { K.faults sink.old ≤ K.faults sink.new }
+{
+    let mut rest = rows;
+    while !rest.is_empty() {
+        let (batch, later) = rest.split_at(rest.len().min(BATCH));
+        let Ok(lines) = lines_of(alloc, scene, batch) else {
+            return Err(WriteFault::Memory);
+        };
+        write_text(sink, &lines)?;
+        rest = later;
+    }
+    Ok(())
+}
+
+/// Writes the header and the lines of the rows. Each row has to be one that the scene can name. Where the sink fails, or
+/// memory gives out, a prefix of the text was taken, and no further write is tried.
+#[tactic(auto, unfolding(scene_model::specs::Logs::text_of))]
+pub fn write_rows<K: Sink>(
+    alloc: Global,
+    scene: &Scene,
+    rows: &[Row],
+    sink: &mut K,
+) -> Result<(), WriteFault>
+    requires { list_all (is_writable scene.now) rows.now ≡ true }
+    ensures all { OnOk result (Took (K.taken sink.old) (text_of scene.now rows.now) (K.taken sink.new)) }
+    ensures prefix { TookPrefix (K.taken sink.old) (text_of scene.now rows.now) (K.taken sink.new) }
+    ensures cause { IsErrOf result WriteFault.Sink → Rose (K.faults sink.old) (K.faults sink.new) }
+    ensures never_falls { K.faults sink.old ≤ K.faults sink.new }
+{
+    write_text(sink, header())?;
+    write_lines(alloc, scene, rows, sink)
+}
