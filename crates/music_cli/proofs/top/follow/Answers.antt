@@ -1,0 +1,12 @@
+use Rattle.std.proofs.Common.{◌≡◌, ap, true}
+use Rattle.std.specs.Prelude.{is_some}
+use Rattle.music_cli.specs.Words.{are_accepted}
+use Rattle.music_cli.specs.Clauses.{answered}
+use Rattle.music_cli.proofs.Endings.{given_to_words}
+use Rattle.music_cli.proofs.top.follow.Goals as goal
+
+pub returns-in-Ok : goal.returns-in-Ok
+returns-in-Ok g c words is =
+    let accepted : are_accepted words ≡ true = ap is_some is in
+    answered accepted c.in-Ok.bytes.items (record { gave = c.in-Ok.ensures.read; size = c.in-Ok.ensures.size; whole = c.in-Ok.ensures.whole })
+    (given_to_words c.args.command words c.in-Ok.bytes.items c.deref.result.now _ _ c.deref.ensures.value is c.run.ensures.given)

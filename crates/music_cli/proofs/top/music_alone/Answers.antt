@@ -1,0 +1,11 @@
+use Rattle.music_cli.proofs.Endings.{has_answer, has_prefix, is_complete}
+use Rattle.music_cli.proofs.top.music_alone.Goals as goal
+
+pub returns-clause-answers : goal.returns-clause-answers
+returns-clause-answers g c = rw (c.number.ensures, ← c.deref.ensures.value) (has_answer _ _ _ _ c.answer-status.ensures)
+
+pub returns-clause-prefix : goal.returns-clause-prefix
+returns-clause-prefix g c = rw (c.number.ensures, ← c.deref.ensures.value) (has_prefix _ _ _ _ c.answer-status.ensures)
+
+pub returns-clause-completeness : goal.returns-clause-completeness
+returns-clause-completeness g c = rw (c.number.ensures, ← c.deref.ensures.value) (is_complete _ _ _ _ c.answer-status.ensures)

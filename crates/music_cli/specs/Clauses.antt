@@ -1,0 +1,121 @@
+-- What holds of each call of the program, over any source and any sink.
+use Rattle.std.specs.Prelude.{◌≡◌, ◌≢◌, ◌⊎◌, ℕ, ◌<◌, ◌≤◌, true, false, List, length, take, Option, Some, IsTrue, IsOk}
+use Rattle.music_base.specs.Causes.{Rose}
+use Rattle.music_base.specs.Outside.{Gave, IsAtEnd, Took, TookPrefix}
+use Rattle.config_text.specs.FirstForm.{first_form}
+use Rattle.music_cli.specs.Words.{are_accepted}
+use Rattle.music_cli.specs.Answers.{Answers, number_of, usage_text, read_fault_text}
+use Rattle.music_cli.specs.declared.status.Status.{Status}
+use Rattle.music_cli.specs.declared.status.Status.TheVariants.{Done, Usage, ReadFault, WriteFault, NoMemory}
+
+-- A source, or a sink, before a call and after it: the bytes that it had left, or took, where it tells them, and how
+-- often it had failed.
+pub record Ends : Type 0 where
+  pub before : Option (List ℕ)
+  pub after : Option (List ℕ)
+  pub faults_before : ℕ
+  pub faults_after : ℕ
+
+abbrev pub ends : Option (List ℕ) → Option (List ℕ) → ℕ → ℕ → Ends
+ends before after faults_before faults_after =
+    record { before = before; after = after; faults_before = faults_before; faults_after = faults_after }
+
+-- its faults rose in the call
+abbrev pub Failed : Ends → Type 0
+Failed e = Rose e.faults_before e.faults_after
+
+-- a source was not touched
+abbrev pub Untouched : Ends → Type 0
+Untouched source = (source.after ≡ source.before) × (source.faults_after ≡ source.faults_before)
+
+-- a sink took this text, whole
+abbrev pub Wrote : List ℕ → Ends → Type 0
+Wrote text sink = Took sink.before text sink.after
+
+-- a sink took a prefix of this text
+abbrev pub WrotePrefix : List ℕ → Ends → Type 0
+WrotePrefix text sink = TookPrefix sink.before text sink.after
+
+-- how many bytes are read at most: one more than the longest text has
+abbrev pub most_read : ℕ
+most_read = 1048577
+
+-- of the bytes that were left in the source, those that are read
+abbrev pub read_part : List ℕ → List ℕ
+read_part left = take most_read left
+
+-- ---- clauses for every source and sink
+
+-- the result is one of the statuses that can come at all
+abbrev pub IsStatus : ℕ → Type 0
+IsStatus result = (status : Status) × (result ≡ number_of status)
+
+-- accepted words never get the status of wrong words
+abbrev pub NotUsage : List (List ℕ) → ℕ → Type 0
+NotUsage words result = IsTrue (are_accepted words) → result ≢ number_of Usage
+
+-- refused words get the usage line and its status, or that of a write fault, and leave the source untouched
+abbrev pub IsUsage : List (List ℕ) → Ends → Ends → ℕ → Type 0
+IsUsage words source sink result = are_accepted words ≡ false →
+    (((result ≡ number_of Usage) × Wrote usage_text sink) ⊎ (result ≡ number_of WriteFault)) × Untouched source
+
+-- a read fault comes only to accepted words, where the source failed in this call; it is written
+abbrev pub HasReadFaultCause : List (List ℕ) → Ends → Ends → ℕ → Type 0
+HasReadFaultCause words source sink result = result ≡ number_of ReadFault →
+    IsTrue (are_accepted words) × Failed source × Wrote read_fault_text sink
+
+-- a write fault comes only where the sink failed in this call
+abbrev pub HasWriteFaultCause : Ends → ℕ → Type 0
+HasWriteFaultCause sink result = result ≡ number_of WriteFault → Failed sink
+
+-- ---- clauses where the source tells its bytes
+
+-- a status below that of a read fault comes with a text: both are what these words and bytes get
+abbrev pub HasAnswer : List (List ℕ) → Ends → Ends → ℕ → Type 0
+HasAnswer words source sink result = (bytes : List ℕ) → source.before ≡ Some bytes → result ≤ 5 →
+    (status : Status) × (text : List ℕ) × (result ≡ number_of status) × Answers words (read_part bytes) status text × Wrote text sink
+
+-- the text of an answer to these words and bytes, or that of a read fault where the source failed
+abbrev pub IsText : List (List ℕ) → List ℕ → Ends → List ℕ → Type 0
+IsText words bytes source text = ((status : Status) × Answers words (read_part bytes) status text) ⊎ ((text ≡ read_fault_text) × Failed source)
+
+-- where writing or memory gave out, the sink took a prefix of such a text
+abbrev pub HasPrefix : List (List ℕ) → Ends → Ends → ℕ → Type 0
+HasPrefix words source sink result = (bytes : List ℕ) → source.before ≡ Some bytes →
+    ((result ≡ number_of WriteFault) ⊎ (result ≡ number_of NoMemory)) → (text : List ℕ) × IsText words bytes source text × WrotePrefix text sink
+
+-- Completeness: accepted words and bytes that spell the first form are done, or memory gave out, where neither the
+-- source nor the sink failed.
+abbrev pub IsComplete : List (List ℕ) → Ends → Ends → ℕ → Type 0
+IsComplete words source sink result = (bytes : List ℕ) → source.before ≡ Some bytes → IsTrue (are_accepted words) → IsOk (first_form (read_part bytes)) →
+    (Failed source → ⊥) → (Failed sink → ⊥) → (result ≡ number_of Done) ⊎ (result ≡ number_of NoMemory)
+
+-- ---- how a call can end
+
+-- A text was said with a status: it was written, or the sink failed and took a prefix of it.
+pub record IsSaid (status : Status) (text : List ℕ) (sink : Ends) (result : Status) : Type 0 where
+  pub cases : ((result ≡ status) × Wrote text sink) ⊎ ((result ≡ WriteFault) × Failed sink)
+  pub prefix : WrotePrefix text sink
+
+-- An answer was given to bytes that were read: its text was written, or a prefix of it where the sink failed or memory
+-- gave out.
+pub record IsGiven (found : Status → List ℕ → Type 0) (sink : Ends) (result : Status) : Type 0 where
+  pub status : Status
+  pub text : List ℕ
+  pub found_so : found status text
+  pub cases : ((result ≡ status) × Wrote text sink) ⊎ ((result ≡ WriteFault) × Failed sink) ⊎ (result ≡ NoMemory)
+  pub prefix : WrotePrefix text sink
+
+-- what was read of a source: all that was left, or one byte more than the longest text has
+pub record IsRead (bytes : List ℕ) (source : Ends) : Type 0 where
+  pub gave : Gave source.before bytes source.after
+  pub size : length bytes ≤ most_read
+  pub whole : length bytes < most_read → IsAtEnd source.after
+
+-- The four ways in which a call can end: the words were refused; the source failed; memory gave out before the bytes
+-- were read; or an answer was given to the bytes that were read.
+pub data Ended (words : List (List ℕ)) (source sink : Ends) (result : Status) : Type 0 where
+  refused : are_accepted words ≡ false → Untouched source → IsSaid Usage usage_text sink result → Ended words source sink result
+  unread : are_accepted words ≡ true → Failed source → IsSaid ReadFault read_fault_text sink result → Ended words source sink result
+  unfound : are_accepted words ≡ true → result ≡ NoMemory → sink.after ≡ sink.before → Ended words source sink result
+  answered : are_accepted words ≡ true → (bytes : List ℕ) → IsRead bytes source → IsGiven (Answers words bytes) sink result → Ended words source sink result

@@ -1,0 +1,19 @@
+ghost use Rattle.std.specs.Prelude.{◌≡◌};
+ghost use Rattle.music_cli.specs.Words.{command_of, texts};
+
+/// What the program can be asked to do.
+#[derive(Clone, Copy, Debug, PartialEq, Eq)]
+pub enum Command {
+    /// Run the scene and write its log.
+    Run,
+}
+
+/// The command that the words behind the program's name give, or none where they are refused.
+pub fn command_of(words: &[String]) -> Option<Command>
+    ensures { result ≡ command_of (texts words.now) }
+{
+    match words {
+        [word] if word.as_bytes() == b"run".as_slice() => Some(Command::Run),
+        _ => None,
+    }
+}

@@ -1,0 +1,12 @@
+//! The program, from bytes to bytes: the words and the source's bytes decide the status and the text that is written.
+#![tactic(auto)]
+
+mod command_line;
+mod running;
+mod saying;
+mod status;
+mod top;
+
+pub use command_line::{Command, command_of};
+pub use status::Status;
+pub use top::{music, music_alone};

@@ -1,0 +1,140 @@
+//! The two top calls.
+ghost use Rattle.std.specs.Prelude.{◌≡◌, ℕ, List, Some};
+ghost use Rattle.music_cli.specs.Words.{command_of, texts};
+ghost use Rattle.music_cli.specs.Clauses.{
+  ends,
+  Ended,
+  HasAnswer,
+  HasPrefix,
+  HasReadFaultCause,
+  HasWriteFaultCause,
+  IsComplete,
+  IsStatus,
+  IsUsage,
+  NotUsage,
+};
+
+use crate::running::run;
+use crate::saying::{read_fault_text, say, usage_text};
+use crate::{Command, Status, command_of};
+use music_base::{Gate, MOST_READ, ReadFault, Sink, Source, read_all};
+use std::alloc::Global;
+use std::sync::Wait;
+use std::thread::Threads;
+
+// Reads the source, and answers to what was read.
+fn follow<S: Source, K: Sink>(
+    alloc: Global,
+    command: Command,
+    source: &mut S,
+    sink: &mut K,
+) -> Status
+    ensures { (words : List (List ℕ)) → command_of words ≡ Some command → Ended words
+        (ends (S.left source.old) (S.left source.new) (S.faults source.old) (S.faults source.new))
+        (ends (K.taken sink.old) (K.taken sink.new) (K.faults sink.old) (K.faults sink.new)) result }
+{
+    match read_all(alloc, source, MOST_READ) {
+        Ok(bytes) => match command {
+            Command::Run => run(alloc, &bytes, sink),
+        },
+        Err(ReadFault::Source) => say(sink, Status::ReadFault, read_fault_text()),
+        Err(ReadFault::Memory) => Status::NoMemory,
+    }
+}
+
+// Does all that the words ask.
+fn answer<S: Source, K: Sink>(
+    alloc: Global,
+    words: &[String],
+    source: &mut S,
+    sink: &mut K,
+) -> Status
+    ensures { Ended (texts words.now)
+        (ends (S.left source.old) (S.left source.new) (S.faults source.old) (S.faults source.new))
+        (ends (K.taken sink.old) (K.taken sink.new) (K.faults sink.old) (K.faults sink.new)) result }
+{
+    match command_of(words) {
+        Some(command) => follow(alloc, command, source, sink),
+        None => say(sink, Status::Usage, usage_text()),
+    }
+}
+
+/// Does all that the program does for one worker, and starts no thread.
+///
+/// The words are those behind the program's name, and exactly the one word `run` is accepted. The source is then read to
+/// its end, or one byte further than a text may be long, and the log of the scene that the text spells is written to
+/// the sink, or the line that says why there is none. The answer is the program's exit status: 0 done, 2 wrong words,
+/// 3 a fault of the text, 6 the source failed, 7 the sink failed, 8 memory was not found.
+pub fn music_alone<S: Source, K: Sink>(
+    alloc: Global,
+    words: &Vec<String>,
+    source: &mut S,
+    sink: &mut K,
+) -> u8
+    ensures status_in_range { IsStatus result }
+
+    // for every source and every sink
+    ensures accepted_words_are_no_usage { NotUsage (texts words.now.items) result }
+    ensures refused_words_are_usage { IsUsage (texts words.now.items)
+        (ends (S.left source.old) (S.left source.new) (S.faults source.old) (S.faults source.new))
+        (ends (K.taken sink.old) (K.taken sink.new) (K.faults sink.old) (K.faults sink.new)) result }
+    ensures cause_of_a_read_fault { HasReadFaultCause (texts words.now.items)
+        (ends (S.left source.old) (S.left source.new) (S.faults source.old) (S.faults source.new))
+        (ends (K.taken sink.old) (K.taken sink.new) (K.faults sink.old) (K.faults sink.new)) result }
+    ensures cause_of_a_write_fault { HasWriteFaultCause
+        (ends (K.taken sink.old) (K.taken sink.new) (K.faults sink.old) (K.faults sink.new)) result }
+
+    // where the source tells its bytes
+    ensures answers { HasAnswer (texts words.now.items)
+        (ends (S.left source.old) (S.left source.new) (S.faults source.old) (S.faults source.new))
+        (ends (K.taken sink.old) (K.taken sink.new) (K.faults sink.old) (K.faults sink.new)) result }
+    ensures prefix { HasPrefix (texts words.now.items)
+        (ends (S.left source.old) (S.left source.new) (S.faults source.old) (S.faults source.new))
+        (ends (K.taken sink.old) (K.taken sink.new) (K.faults sink.old) (K.faults sink.new)) result }
+    ensures completeness { IsComplete (texts words.now.items)
+        (ends (S.left source.old) (S.left source.new) (S.faults source.old) (S.faults source.new))
+        (ends (K.taken sink.old) (K.taken sink.new) (K.faults sink.old) (K.faults sink.new)) result }
+{
+    let status = answer(alloc, words, source, sink);
+    status.number()
+}
+
+/// Does all that the program does, over any source, sink, gate and runtime. Its clauses are those of `music_alone`, which
+/// says what the words, the source, the sink and the answer are. Until more than one worker can be asked for, it starts no
+/// thread and calls no gate.
+pub fn music<R: Threads + Wait + Sync, S: Source, K: Sink, G: Gate>(
+    rt: &R,
+    alloc: Global,
+    words: &Vec<String>,
+    source: &mut S,
+    sink: &mut K,
+    gate: &G,
+) -> u8
+    ensures status_in_range { IsStatus result }
+
+    // for every source and every sink
+    ensures accepted_words_are_no_usage { NotUsage (texts words.now.items) result }
+    ensures refused_words_are_usage { IsUsage (texts words.now.items)
+        (ends (S.left source.old) (S.left source.new) (S.faults source.old) (S.faults source.new))
+        (ends (K.taken sink.old) (K.taken sink.new) (K.faults sink.old) (K.faults sink.new)) result }
+    ensures cause_of_a_read_fault { HasReadFaultCause (texts words.now.items)
+        (ends (S.left source.old) (S.left source.new) (S.faults source.old) (S.faults source.new))
+        (ends (K.taken sink.old) (K.taken sink.new) (K.faults sink.old) (K.faults sink.new)) result }
+    ensures cause_of_a_write_fault { HasWriteFaultCause
+        (ends (K.taken sink.old) (K.taken sink.new) (K.faults sink.old) (K.faults sink.new)) result }
+
+    // where the source tells its bytes
+    ensures answers { HasAnswer (texts words.now.items)
+        (ends (S.left source.old) (S.left source.new) (S.faults source.old) (S.faults source.new))
+        (ends (K.taken sink.old) (K.taken sink.new) (K.faults sink.old) (K.faults sink.new)) result }
+    ensures prefix { HasPrefix (texts words.now.items)
+        (ends (S.left source.old) (S.left source.new) (S.faults source.old) (S.faults source.new))
+        (ends (K.taken sink.old) (K.taken sink.new) (K.faults sink.old) (K.faults sink.new)) result }
+    ensures completeness { IsComplete (texts words.now.items)
+        (ends (S.left source.old) (S.left source.new) (S.faults source.old) (S.faults source.new))
+        (ends (K.taken sink.old) (K.taken sink.new) (K.faults sink.old) (K.faults sink.new)) result }
+{
+    let _ = rt;
+    let _ = gate;
+    music_alone(alloc, words, source, sink)
+}
