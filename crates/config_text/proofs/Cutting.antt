@@ -3,12 +3,13 @@ use Rattle.std.proofs.Common.{◌≡◌, ℕ, suc, ◌+◌, ◌<◌, false, not,
 use Rattle.std.specs.List.{position, position_or_len}
 use Rattle.std.proofs.lemmas.Bool.{cases_Bool, lt-ltb, le-ltb, cases_lt}
 use Rattle.std.proofs.lemmas.List.Sums.{prefix_len-le-length}
-use Rattle.config_text.specs.Bytes.{is_line_feed}
+use Rattle.config_text.specs.Lines.{is_line_feed}
 use Rattle.config_text.specs.Lines.{raw_lines}
 
 -- the first line ends where the first LF stands
 first_line : (bytes : List ℕ) → position_or_len is_line_feed bytes < length bytes
     → raw_lines bytes ≡ take (position_or_len is_line_feed bytes) bytes ∷ raw_lines (drop (position_or_len is_line_feed bytes + 1) bytes)
+unfolding raw_lines
 first_line [] some = absurd (omega arith)
 first_line (b ∷ bytes) some =
     elim (cases_Bool (is_line_feed b)) [
@@ -29,6 +30,7 @@ goes_on b bytes none =
     ]
 
 only_line : (b : ℕ) (bytes : List ℕ) → position_or_len is_line_feed (b ∷ bytes) ≡ length (b ∷ bytes) → raw_lines (b ∷ bytes) ≡ (b ∷ bytes) ∷ []
+unfolding raw_lines
 only_line b [] none = rw (goes_on b [] none).0 refl
 only_line b (c ∷ more) none = rw (goes_on b (c ∷ more) none).0 (rw (only_line c more (goes_on b (c ∷ more) none).1) refl)
 
@@ -43,6 +45,7 @@ split_at_end bytes end e =
     ]
 
 pub no_end : (bytes : List ℕ) → 0 < length bytes → position is_line_feed bytes ≡ None → raw_lines bytes ≡ bytes ∷ []
+unfolding raw_lines
 no_end [] some e = absurd (omega arith)
 no_end (b ∷ bytes) some e =
     elim (cases_lt (position_or_len is_line_feed (b ∷ bytes)) (length (b ∷ bytes))) [

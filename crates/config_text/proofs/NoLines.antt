@@ -2,11 +2,11 @@
 use Rattle.std.proofs.Common.{◌≡◌, ℕ, ◌<◌, List, [], ◌∷◌, length, Err, refl, inl, inr, arith}
 use Rattle.std.specs.List.{onto_first}
 use Rattle.std.proofs.lemmas.Bool.{cases_Bool}
-use Rattle.config_text.specs.Bytes.{is_line_feed}
-use Rattle.config_text.specs.Lines.{raw_lines}
+use Rattle.config_text.specs.Lines.{is_line_feed, raw_lines}
 use Rattle.config_text.specs.FirstForm.{no_line}
 
 pub raw_lines-nil : (text : List ℕ) → length text ≡ 0 → raw_lines text ≡ []
+unfolding raw_lines
 raw_lines-nil [] none = refl
 raw_lines-nil (b ∷ text) none = absurd (omega arith)
 
@@ -17,7 +17,7 @@ no_line-onto_first b number (line ∷ lines) = refl
 
 -- a text that is not empty has a line
 pub no_line-raw_lines : (number : ℕ) (text : List ℕ) → 0 < length text → no_line number (raw_lines text) ≡ Err number
-unfolding no_line
+unfolding raw_lines no_line
 no_line-raw_lines number [] some = absurd (omega arith)
 no_line-raw_lines number (b ∷ text) some =
     elim (cases_Bool (is_line_feed b)) [

@@ -8,7 +8,7 @@ use Rattle.config_text.specs.declared.text_fault.TextFault.TheVariants.{At, Memo
 use Rattle.config_text.specs.declared.form.FirstForm.{FirstForm}
 use Rattle.config_text.specs.FormWords.{◌when◌}
 use Rattle.config_text.specs.FormLines.{PortLine, RuleLine, section_line, other_section_line, stop_line, tick_line, port_line, rule_line, width_line}
-use Rattle.config_text.specs.Lines.{raw_lines}
+use Rattle.config_text.specs.Lines.{raw_lines, longest_text}
 
 -- The steps read line by line, up to the first line that is not as it has to be. Its number is the fault.
 infixl 10 ◌>>=◌
@@ -114,10 +114,6 @@ form_of lines = do
   sink ← sink_lines source
   width ← last_line source sink
   Ok (form_from source sink width)
-
--- how many bytes a text may have
-abbrev pub longest_text : ℕ
-longest_text = 1048576
 
 -- What the text says in the first form; or the line of its first fault, from 1, and the kind, where line 0 is the text.
 unfoldable pub first_form : List ℕ → Result FirstForm (ℕ × TextKind)

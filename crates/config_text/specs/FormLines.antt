@@ -2,7 +2,8 @@
 use Rattle.std.specs.Prelude.{ℕ, ◌+◌, ◌*◌, ◌/◌, Bool, ◌&&◌, not, nat_le, nat_lt, nat_eq, List, length, Option, Some, None, bytes_eq, codes}
 use Rattle.std.specs.Str.{byte}
 use Rattle.music_base.specs.Clocks.{steps_until}
-use Rattle.config_text.specs.FormWords.{◌when◌, cut_at, behind, name_in, count_up_to, time_in}
+use Rattle.config_text.specs.FormWords.{◌when◌, cut_at, behind, name_in, time_in}
+use Rattle.config_text.specs.Counts.{count_up_to}
 
 -- the steps read on with the next word; where one is missing nothing is said
 infixl 10 ◌>>=◌

@@ -1,9 +1,7 @@
 -- The words of a line of the first form, each read from the front of what is left.
-use Rattle.std.specs.Prelude.{ℕ, ◌+◌, Bool, ◌&&◌, ◌==◌, nat_le, if◌then◌else◌, List, length, take, drop, Option, Some, None, option_map, bytes_eq}
-use Rattle.std.specs.Char.{is_ascii_digit}
-use Rattle.std.specs.List.{list_all, position}
+use Rattle.std.specs.Prelude.{ℕ, ◌+◌, Bool, ◌==◌, if◌then◌else◌, List, length, take, drop, Option, Some, None, option_map, bytes_eq}
+use Rattle.std.specs.List.{position}
 use Rattle.std.specs.Result.{result_ok}
-use Rattle.std.specs.Str.Parse.{digits_value}
 use Rattle.music_base.specs.Names.{is_name}
 use Rattle.music_base.specs.Times.{time_value}
 
@@ -23,18 +21,6 @@ behind front text = drop (length front) text when bytes_eq (take (length front) 
 -- NAME
 abbrev pub name_in : List ℕ → Option (List ℕ)
 name_in text = text when is_name text
-
--- one decimal digit or more; leading zeros are accepted
-abbrev pub is_count : List ℕ → Bool
-is_count text = nat_le 1 (length text) && list_all is_ascii_digit text
-
--- the number that digits write, where it is at most so much
-abbrev pub value_up_to : ℕ → List ℕ → Option ℕ
-value_up_to most digits = digits_value 10 digits when nat_le (digits_value 10 digits) most
-
--- a count of at most so much
-abbrev pub count_up_to : ℕ → List ℕ → Option ℕ
-count_up_to most text = if is_count text then value_up_to most text else None
 
 -- TIME, in nanoseconds
 abbrev pub time_in : List ℕ → Option ℕ

@@ -1,5 +1,15 @@
 pub mod Bytes
 pub mod Lines
+pub mod Counts
+pub mod Parts
+pub mod Connections
+pub mod Contents
+pub mod Pairs
+pub mod Text
+pub mod Lawful
+pub mod Canon
+pub mod Lookup
+pub mod Inner
 pub mod FormWords
 pub mod FormLines
 pub mod FirstForm

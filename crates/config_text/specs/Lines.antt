@@ -1,9 +1,19 @@
 -- The lines of a text.
-use Rattle.std.specs.Prelude.{ℕ, ◌==◌, if◌then◌else◌, List, [], ◌∷◌}
+use Rattle.std.specs.Prelude.{ℕ, Bool, ◌==◌, if◌then◌else◌, List, [], ◌∷◌}
 use Rattle.std.specs.List.{onto_first}
-use Rattle.config_text.specs.Bytes.{line_feed}
+
+-- LF, which ends a line
+abbrev pub line_feed : ℕ
+line_feed = 10
+
+abbrev pub is_line_feed : ℕ → Bool
+is_line_feed b = b == line_feed
 
 -- the text cut at each LF; a last piece with no LF is a line where it is not empty
-abbrev pub raw_lines : List ℕ → List (List ℕ)
+unfoldable pub raw_lines : List ℕ → List (List ℕ)
 raw_lines [] = []
-raw_lines (b ∷ bytes) = if b == line_feed then [] ∷ raw_lines bytes else onto_first b (raw_lines bytes)
+raw_lines (b ∷ bytes) = if is_line_feed b then [] ∷ raw_lines bytes else onto_first b (raw_lines bytes)
+
+-- how many bytes a text may have
+abbrev pub longest_text : ℕ
+longest_text = 1048576

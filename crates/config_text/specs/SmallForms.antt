@@ -2,11 +2,7 @@
 use Rattle.std.specs.Prelude.{ℕ, ◌-◌, List, [], ◌∷◌, ◌++◌, take, drop, codes}
 use Rattle.std.specs.List.{flat_map}
 use Rattle.config_text.specs.declared.form.FirstForm.{FirstForm}
-use Rattle.config_text.specs.Bytes.{line_feed}
-
--- a line and its end
-abbrev pub ended : List ℕ → List ℕ
-ended line = line ++ line_feed ∷ []
+use Rattle.config_text.specs.Canon.{ended}
 
 abbrev pub text_of : List (List ℕ) → List ℕ
 text_of lines = flat_map ended lines

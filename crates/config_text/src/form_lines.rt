@@ -8,7 +8,8 @@ ghost use Rattle.config_text.specs.FormLines.{section_line, other_section_line, 
 ghost use Rattle.config_text.specs.FormViews.{seen_port, seen_rule, seen_link};
 ghost use Rattle.config_text.specs.LawfulForm.{IsTick, IsPeriod, IsSpan, IsMapped};
 
-use crate::form_words::{behind, count_up_to, cut_at, name_in, time_in};
+use crate::counts::count_up_to;
+use crate::form_words::{behind, cut_at, name_in, time_in};
 use music_base::{Nanos, steps_of};
 
 /// The longest tick, in nanoseconds.

@@ -14,13 +14,10 @@ use crate::form_lines::{
     PortPart, RulePart, other_section_line, port_line, rule_line, section_line, stop_line,
     tick_line, width_line,
 };
-use crate::lines::split_line;
+use crate::lines::{LONGEST_TEXT, split_line};
 use crate::{FirstForm, TextFault, TextKind};
 use music_base::{Name, Nanos, NoMemory};
 use std::alloc::Global;
-
-/// The longest text, in bytes.
-const LONGEST_TEXT: usize = 1_048_576;
 
 /// The next line, and what stands behind its end; or the number, where there is no line.
 #[tactic(auto, unfolding(crate::specs::FirstForm::next_line))]

@@ -5,7 +5,7 @@ ghost use Rattle.std.specs.List.{position, list_all};
 ghost use Rattle.std.specs.Char.{is_ascii_digit};
 ghost use Rattle.std.specs.Str.Parse.{digits_value};
 ghost use Rattle.music_base.specs.Names.{is_name};
-ghost use Rattle.config_text.specs.FormWords.{cut_at, behind, name_in, is_count, value_up_to, count_up_to, time_in};
+ghost use Rattle.config_text.specs.FormWords.{cut_at, behind, name_in, time_in};
 ghost use Rattle.music_base.specs.Times.{greatest_time};
 
 use music_base::{Nanos, is_name, read_time};
@@ -38,45 +38,6 @@ pub fn name_in(text: &[u8]) -> Option<&[u8]>
     ensures is { IfSome result (λ name. is_name name.now ≡ true) }
 {
     if is_name(text) { Some(text) } else { None }
-}
-
-fn are_digits(text: &[u8]) -> bool
-    ensures { result ≡ list_all is_ascii_digit text.now }
-{
-    text.iter().all(|b| b.is_ascii_digit())
-}
-
-fn is_count(text: &[u8]) -> bool
-    ensures { result ≡ is_count text.now }
-{
-    1 <= text.len() && are_digits(text)
-}
-
-/// The number that the digits write, where it is at most `most`.
-fn value_up_to(most: u32, digits: &[u8]) -> Option<u32>
-    requires { list_all is_ascii_digit digits.now ≡ true }
-    ensures { result ≡ value_up_to most digits.now }
-{
-    let mut value = 0u64;
-    for digit in digits {
-        value = value * 10 + (*digit - b'0') as u64;
-        if value > most as u64 {
-            return None;
-        }
-    }
-    Some(value as u32)
-}
-
-/// A count of at most so much.
-pub fn count_up_to(most: u32, text: &[u8]) -> Option<u32>
-    ensures count { result ≡ count_up_to most text.now }
-    ensures most { IfSome result (λ count. count ≤ most) }
-{
-    if is_count(text) {
-        value_up_to(most, text)
-    } else {
-        None
-    }
 }
 
 /// A time.

@@ -1,17 +1,42 @@
-//! The configuration text.
+//! The configuration text, read and written.
+//!
+//! A text has settings (`name=value`), section lines (`[name]`), connections (`a.p -> b.q [7]`), blank lines and
+//! comments (from `#`). Settings before the first section line are defaults, later ones belong to the section whose
+//! line was last. [`read_config`] reads every spelling, [`write_config`] writes the one canonical spelling.
 #![tactic(auto)]
 
+mod config;
+mod connection;
+mod content;
+mod counts;
 mod form;
 mod form_laws;
 mod form_lines;
 mod form_reading;
 mod form_words;
+mod laws;
 mod lines;
+mod link_text;
+mod links;
+mod parts;
+mod reading;
+mod sections;
+mod settings;
 mod text_fault;
 mod text_kind;
+mod writing;
 
+pub use config::{Config, lookup};
 pub use form::FirstForm;
 pub use form_laws::small_forms_compute;
 pub use form_reading::first_form;
+pub use laws::{canonical_reading, comment_reading, lawful_reading, one_reading};
+pub use link_text::LinkText;
+pub use links::Links;
+pub use parts::is_value;
+pub use reading::read_config;
+pub use sections::Sections;
+pub use settings::Settings;
 pub use text_fault::TextFault;
 pub use text_kind::TextKind;
+pub use writing::write_config;

@@ -1,7 +1,10 @@
 ghost use Rattle.std.specs.Prelude.{◌≡◌, ◌∷◌, ◌<◌, length, IfSome};
 ghost use Rattle.std.specs.List.{position};
-ghost use Rattle.config_text.specs.Bytes.{is_line_feed};
+ghost use Rattle.config_text.specs.Lines.{is_line_feed};
 ghost use Rattle.config_text.specs.Lines.{raw_lines};
+
+/// The longest text, in bytes.
+pub const LONGEST_TEXT: usize = 1_048_576;
 
 /// The first line, and what stands after its line end.
 pub fn split_line(bytes: &[u8]) -> (&[u8], &[u8])

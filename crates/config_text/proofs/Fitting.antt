@@ -1,0 +1,117 @@
+-- What a line is read as is lawful, and what it is refused as is never Unbuilt.
+use Rattle.std.proofs.Common.{◌≡◌, ℕ, Bool, true, false, ◌&&◌, ◌||◌, List, [], ◌∷◌, refl}
+use Rattle.std.specs.Prelude.{Result, Ok, Err, Option, Some, None, if◌then◌else◌}
+use Rattle.std.specs.List.{list_any, list_all, before_first, after_first}
+use Rattle.std.specs.Str.Parse.{digits_value}
+use Rattle.std.specs.Int.{is_in_range}
+use Rattle.std.proofs.lemmas.Bool.{and_parts, and_from}
+use Rattle.music_base.specs.Names.{is_name}
+use Rattle.config_text.specs.declared.text_kind.TextKind.{TextKind}
+use Rattle.config_text.specs.declared.text_kind.TextKind.TheVariants.{Unbuilt}
+use Rattle.config_text.specs.Bytes.{close_bracket, is_quote, is_equals, is_point, is_open_bracket, is_text_byte}
+use Rattle.config_text.specs.Parts.{◌>>=◌, without_cr, before_comment, trimmed, ends_in, between_ends, without_last, name_in, is_value}
+use Rattle.config_text.specs.Counts.{is_count}
+use Rattle.config_text.specs.Connections.{split_at_arrow, end_in, width_in, most_width, link_between, connection_with_width, connection_without_width, connection_between, connection_at, connection_in, is_width, is_link}
+use Rattle.config_text.specs.Contents.{Content, section, setting, connection, is_quoted, value_in, section_in, is_setting, setting_in, content_in, content_of, is_lawful}
+use Rattle.config_text.proofs.TextBytes.{list_all-drop, text-trimmed, quoted_value, plain_value}
+
+abbrev pub is_built : TextKind → Bool
+is_built Unbuilt = false
+is_built _ = true
+
+-- what is read obeys the law, and a refusal is not Unbuilt
+abbrev pub Reads : {X : Type 0} → (X → Bool) → Result X TextKind → Type 0
+Reads law (Ok x) = law x ≡ true
+Reads law (Err kind) = is_built kind ≡ true
+
+reads-then : {A B : Type 0} (law : A → Bool) (next : B → Bool) (r : Result A TextKind) (f : A → Result B TextKind) → Reads law r → ((x : A) → law x ≡ true → Reads next (f x)) → Reads next (r >>= f)
+reads-then law next (Ok x) f first second = second x first
+reads-then law next (Err kind) f first second = first
+
+reads-if : {A : Type 0} (law : A → Bool) (t : Bool) (a b : Result A TextKind) → (t ≡ true → Reads law a) → (t ≡ false → Reads law b) → Reads law (if t then a else b)
+reads-if law true a b yes_ no_ = yes_ refl
+reads-if law false a b yes_ no_ = no_ refl
+
+reads-name : (text : List ℕ) → Reads is_name (name_in text)
+reads-name text = reads-if is_name (is_name (trimmed text)) _ _ (λ is. is) (λ is. refl)
+
+reads-value : (text : List ℕ) → list_all is_text_byte text ≡ true → Reads is_value (value_in text)
+reads-value text all =
+    let raw = trimmed text in
+    reads-if is_value (is_quoted raw) _ _ (λ quoted. quoted_value raw (text-trimmed text all) quoted)
+    (λ bare. reads-if is_value (list_any is_quote raw) _ _ (λ some. refl) (λ none. plain_value raw (text-trimmed text all) none))
+
+reads-section : (content : List ℕ) → Reads is_lawful (section_in content)
+reads-section content =
+    reads-if is_lawful (ends_in close_bracket content) _ _
+    (λ closed. reads-then is_name is_lawful (name_in (between_ends content)) (λ name. Ok (section name)) (reads-name (between_ends content)) (λ name is. is))
+    (λ open_. refl)
+
+reads-setting : (content : List ℕ) → list_all is_text_byte content ≡ true → Reads is_lawful (setting_in content)
+reads-setting content all =
+    reads-then is_name is_lawful (name_in (before_first is_equals content)) _ (reads-name (before_first is_equals content))
+    (λ name is. reads-then is_value is_lawful (value_in (after_first is_equals content)) (λ value. Ok (setting name value))
+    (reads-value (after_first is_equals content) (list_all-drop is_text_byte _ content all)) (λ value fits. and_from (is_name name) (is_value value) is fits))
+
+are_names : List ℕ × List ℕ → Bool
+are_names names = is_name names.0 && is_name names.1
+
+reads-end : (text : List ℕ) → Reads are_names (end_in text)
+unfolding are_names
+reads-end text = reads-if are_names (is_name (before_first is_point (trimmed text)) && is_name (after_first is_point (trimmed text))) _ _ (λ is. is) (λ is. refl)
+
+reads-width : (text : List ℕ) → Reads (λ width. is_width (Some width)) (width_in text)
+reads-width text =
+    let count = trimmed text in
+    reads-if (λ width. is_width (Some width)) (is_count count && is_in_range 1 most_width (digits_value 10 count)) _ _ (λ is. (and_parts (is_count count) _ is).1) (λ is. refl)
+
+link_is : (from to : List ℕ × List ℕ) (width : Option ℕ) → are_names from ≡ true → are_names to ≡ true → is_width width ≡ true → is_link (link_between from to width) ≡ true
+unfolding are_names
+link_is from to width a b fits =
+    let f = and_parts (is_name from.0) (is_name from.1) a in
+    let t = and_parts (is_name to.0) (is_name to.1) b in
+    and_from _ _ (and_from _ _ (and_from _ _ (and_from _ _ f.0 f.1) t.0) t.1) fits
+
+reads-wide : (left right : List ℕ) → Reads is_link (connection_with_width left right)
+reads-wide left right =
+    let inside = without_last (after_first is_open_bracket right) in
+    reads-if is_link (ends_in close_bracket right) _ _
+    (λ closed. reads-then are_names is_link (end_in left) _ (reads-end left)
+    (λ from a. reads-then are_names is_link (end_in (before_first is_open_bracket right)) _ (reads-end (before_first is_open_bracket right))
+    (λ to b. reads-then (λ width. is_width (Some width)) is_link (width_in inside) (λ width. Ok (link_between from to (Some width))) (reads-width inside)
+    (λ width fits. link_is from to (Some width) a b fits))))
+    (λ open_. refl)
+
+reads-bare : (left right : List ℕ) → Reads is_link (connection_without_width left right)
+reads-bare left right =
+    reads-then are_names is_link (end_in left) _ (reads-end left)
+    (λ from a. reads-then are_names is_link (end_in right) (λ to. Ok (link_between from to None)) (reads-end right) (λ to b. link_is from to None a b refl))
+
+reads-between : (left behind : List ℕ) → Reads is_link (connection_between left behind)
+reads-between left behind =
+    let right = trimmed behind in
+    reads-if is_link (list_any is_quote left || list_any is_quote behind) _ _ (λ some. refl)
+    (λ none. reads-if is_link (list_any is_open_bracket right) _ _ (λ opens. reads-wide left right) (λ bare. reads-bare left right))
+
+reads-at : (parts : Option (List ℕ × List ℕ)) → Reads is_link (connection_at parts)
+reads-at None = refl
+reads-at (Some parts) = reads-between parts.0 parts.1
+
+reads-in : (content : List ℕ) → list_all is_text_byte content ≡ true → Reads is_lawful (content_in content)
+reads-in [] all = refl
+reads-in (b ∷ bytes) all =
+    reads-if is_lawful (is_open_bracket b) _ _ (λ opens. reads-section (b ∷ bytes))
+    (λ plain. reads-if is_lawful (is_setting (b ∷ bytes)) _ _ (λ is. reads-setting (b ∷ bytes) all)
+    (λ other. reads-then is_link is_lawful (connection_in (b ∷ bytes)) (λ link. Ok (connection link)) (reads-at (split_at_arrow (b ∷ bytes))) (λ link is. is)))
+
+pub reads-content : (line : List ℕ) → Reads is_lawful (content_of line)
+reads-content line =
+    let visible = before_comment (without_cr line) in
+    reads-if is_lawful (list_all is_text_byte visible) _ _ (λ all. reads-in (trimmed visible) (text-trimmed visible all)) (λ other. refl)
+
+pub lawful_content : (line : List ℕ) (content : Content) → content_of line ≡ Ok content → is_lawful content ≡ true
+lawful_content line content is = go (content_of line) (reads-content line) is
+  where
+    go : (r : Result Content TextKind) → Reads is_lawful r → r ≡ Ok content → is_lawful content ≡ true
+    go (Ok c) reads e = let same : c ≡ content = cc in rw (← same) reads
+    go (Err kind) reads e = absurd cc

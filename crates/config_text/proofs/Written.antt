@@ -1,0 +1,22 @@
+-- What is written so far, with one line or one section more.
+use Rattle.std.proofs.Common.{◌≡◌, ℕ, ◌+◌, List, [], ◌∷◌, ◌++◌, map, take, Some, ap, ◌∙◌, append_assoc}
+use Rattle.std.specs.Prelude.{slice_get}
+use Rattle.std.specs.List.{flat_map}
+use Rattle.std.proofs.lemmas.List.{map_push, flat_map_more, append-nil}
+use Rattle.std.proofs.lemmas.List.Concat.{flat_map-append}
+use Rattle.config_text.specs.Pairs.{SettingList, SectionList}
+use Rattle.config_text.specs.Canon.{ended, setting_line, section_lines}
+use Rattle.config_text.proofs.Entries.{taken}
+
+pub setting_more : (out base : List ℕ) (ps : SettingList) (i : ℕ) (p : List ℕ × List ℕ) → slice_get ps i ≡ Some p → out ≡ base ++ flat_map ended (map setting_line (take i ps))
+    → out ++ ended (setting_line p) ≡ base ++ flat_map ended (map setting_line (take (i + 1) ps))
+setting_more out base ps i p at so_far =
+    rw (taken ps i p at, map_push setting_line (take i ps) p, so_far) (flat_map_more ended base (map setting_line (take i ps)) (setting_line p))
+
+pub section_more : (out base : List ℕ) (ss : SectionList) (i : ℕ) (s : List ℕ × SettingList) → slice_get ss i ≡ Some s → out ≡ base ++ flat_map ended (flat_map section_lines (take i ss))
+    → out ++ flat_map ended (section_lines s) ≡ base ++ flat_map ended (flat_map section_lines (take (i + 1) ss))
+section_more out base ss i s at so_far =
+    let front = flat_map section_lines (take i ss) in
+    let lines : flat_map section_lines (take (i + 1) ss) ≡ front ++ section_lines s =
+    ap (flat_map section_lines) (taken ss i s at) ∙ flat_map-append section_lines (take i ss) (s ∷ []) ∙ ap (λ (l : List (List ℕ)). front ++ l) (append-nil (section_lines s)) in
+    rw (lines, so_far, flat_map-append ended front (section_lines s)) (append_assoc base (flat_map ended front) (flat_map ended (section_lines s)))

@@ -1,0 +1,68 @@
+-- Words of the inner calls alone: no clause of a public call has them.
+use Rattle.std.specs.Prelude.{◌≡◌, ℕ, List, [], ◌∷◌, ◌++◌, None, Result, Ok, Err}
+use Rattle.config_text.specs.declared.text_kind.TextKind.{TextKind}
+use Rattle.config_text.specs.declared.text_fault.TextFault.{TextFault}
+use Rattle.config_text.specs.declared.text_fault.TextFault.TheVariants as text_faults
+use Rattle.config_text.specs.declared.reading.LineFault.{LineFault}
+use Rattle.config_text.specs.declared.reading.LineFault.TheVariants as line_faults
+use Rattle.config_text.specs.declared.config.Config.{Config}
+use Rattle.config_text.specs.declared.link_text.LinkText.{LinkText}
+use Rattle.config_text.specs.declared.connection.End.{End}
+use Rattle.config_text.specs.declared.connection.Connection.{Connection}
+use Rattle.config_text.specs.declared.content.LentContent.{LentContent}
+use Rattle.config_text.specs.declared.content.LentContent.TheVariants as lent
+use Rattle.config_text.specs.Connections.{link_between}
+use Rattle.config_text.specs.Contents.{Content, blank, section, setting, connection}
+use Rattle.config_text.specs.Pairs.{SectionList, onto_last}
+use Rattle.config_text.specs.Text.{fault_beside}
+
+-- ---- what is lent from a line
+
+-- what a call returned, seen by view, is what the definition reads
+abbrev pub Gives : {X Y : Type 0} → (X → Y) → Result X TextKind → Result Y TextKind → Type 0
+Gives view (Ok x) reading = reading ≡ Ok (view x)
+Gives view (Err kind) reading = reading ≡ Err kind
+
+abbrev pub names_of : End → List ℕ × List ℕ
+names_of end = (end.app.now, end.port.now)
+
+abbrev pub link_of : Connection → LinkText
+link_of c = link_between (names_of c.from) (names_of c.to) c.width
+
+abbrev pub seen : LentContent → Content
+seen lent.Blank = blank
+seen (lent.Section name) = section name.now
+seen (lent.Setting name value) = setting name.now value.now
+seen (lent.Connection c) = connection (link_of c)
+
+-- ---- one more line
+
+-- with one more setting, in the last section or in the defaults
+abbrev pub with_setting : Config → List ℕ × List ℕ → SectionList → Config
+with_setting config pair [] = record config { defaults = config.defaults ++ pair ∷ [] }
+with_setting config pair (first ∷ others) = record config { sections = onto_last pair (first ∷ others) }
+
+abbrev pub with_content : Config → Content → Config
+with_content config blank = config
+with_content config (section name) = record config { sections = config.sections ++ (name, []) ∷ [] }
+with_content config (setting name value) = with_setting config (name, value) config.sections
+with_content config (connection link) = record config { links = config.links ++ link ∷ [] }
+
+abbrev pub with_line : Config → Result Content TextKind → Config
+with_line config (Ok content) = with_content config content
+with_line config (Err kind) = config
+
+-- the line has no fault beside the configuration, which it takes from old to new
+pub record Adds (old : Config) (line : Result Content TextKind) (new : Config) : Type 0 where
+  pub faultless : fault_beside old line ≡ None
+  pub is : new ≡ with_line old line
+
+-- what is said of the kind, where the fault is not want of memory
+abbrev pub OnKind : LineFault → (TextKind → Type 0) → Type 0
+OnKind line_faults.Memory P = Unit {0}
+OnKind (line_faults.Fault kind) P = P kind
+
+-- the fault of a line, at its place
+abbrev pub at_line : ℕ → LineFault → TextFault
+at_line line line_faults.Memory = text_faults.Memory
+at_line line (line_faults.Fault kind) = text_faults.At line kind

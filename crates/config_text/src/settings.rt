@@ -1,0 +1,104 @@
+ghost use Rattle.std.specs.Prelude.{◌≡◌, ◌==◌, [], ◌∷◌, ◌++◌, length, slice_get, IfOk, OnOk, OnErr, ◌<◌, is_some, Some, None, true};
+ghost use Rattle.std.specs.Option.{option_copied};
+ghost use Rattle.config_text.specs.Pairs.{value_of, same_name};
+ghost use Rattle.config_text.specs.Lawful.{are_settings};
+ghost use Rattle.config_text.specs.Parts.{is_value};
+
+use indexmap::IndexMap;
+use music_base::{Name, NoMemory, TryCopy, Word};
+use std::alloc::Global;
+use std::marker::Model;
+
+/// Settings in the order of the text: no name stands twice, and values hold tabs and 0x20 to 0x7E without a quotation
+/// mark. Contracts see a list of names and values.
+#[derive(Drop)]
+pub struct Settings {
+    entries: IndexMap<Name, Word>,
+}
+
+impl Model for Settings {
+    ghost use Rattle.std.specs.Prelude.{List, ℕ, ◌≡◌, true};
+    ghost use Rattle.config_text.specs.Lawful.{are_settings};
+
+    ghost Value = { List (List ℕ × List ℕ) };
+
+    ghost view = { λ s. s.entries.entries };
+
+    ghost invariant = { λ s. are_settings s.entries.entries ≡ true };
+}
+
+impl Settings {
+    /// No setting. It takes no memory.
+    pub fn new(alloc: Global) -> Settings
+        ensures { result ≡ [] }
+    {
+        Settings {
+            entries: IndexMap::new(alloc),
+        }
+    }
+
+    pub fn len(&self) -> usize
+        ensures len { result ≡ length self.now }
+        ensures lawful { are_settings self.now ≡ true }
+    {
+        self.entries.len()
+    }
+
+    pub fn is_empty(&self) -> bool
+        ensures { result ≡ (length self.now == 0) }
+    {
+        self.entries.is_empty()
+    }
+
+    /// Whether the name stands among them.
+    pub fn contains(&self, name: &Name) -> bool
+        ensures { result ≡ is_some (value_of self.now name.now) }
+    {
+        self.entries.contains_key(name)
+    }
+
+    /// The value of the name, where it stands among them.
+    pub fn get(&self, name: &Name) -> Option<&Word>
+        ensures { option_copied result ≡ value_of self.now name.now }
+    {
+        self.entries.get(name)
+    }
+
+    /// The name and the value at a place, from 0.
+    pub fn pair_at(&self, place: usize) -> (&Name, &Word)
+        requires { place < length self.now }
+        ensures { slice_get self.now place ≡ Some (result.0.now, result.1.now) }
+    {
+        match self.entries.get_index(place) {
+            Some(pair) => pair,
+            None => unreachable!(),
+        }
+    }
+
+    /// Appends a setting of a new name. Where memory is wanting the settings stay as they were.
+    pub fn push(&mut self, name: Name, value: Word) -> Result<(), NoMemory>
+        requires absent { value_of self.old name ≡ None }
+        requires value { is_value value ≡ true }
+        ensures ok { OnOk result (self.new ≡ self.old ++ (name, value) ∷ []) }
+        ensures err { OnErr result (self.new ≡ self.old) }
+        ensures lawful { are_settings self.new ≡ true }
+    {
+        // Its type keeps that it is a name.
+        let _name = name.as_slice();
+        self.entries.insert(name, value)?;
+        Ok(())
+    }
+}
+
+impl TryCopy for Settings {
+    fn copy(&self, alloc: Global) -> Result<Settings, NoMemory> {
+        let mut copied = Settings::new(alloc);
+        for place in 0..self.len() {
+            let (name, value) = self.pair_at(place);
+            let name = name.copy(alloc)?;
+            let value = value.copy(alloc)?;
+            copied.push(name, value)?;
+        }
+        Ok(copied)
+    }
+}
