@@ -1,10 +1,9 @@
 -- What holds of each call of the program, over any source and any sink.
-use Rattle.std.specs.Prelude.{◌≡◌, ◌≢◌, ◌⊎◌, ℕ, ◌<◌, ◌≤◌, true, false, List, length, take, Option, Some, IsTrue, IsOk}
+use Rattle.std.specs.Prelude.{◌≡◌, ◌≢◌, ◌⊎◌, ℕ, ◌<◌, ◌≤◌, true, false, List, length, take, Option, Some, IsTrue}
 use Rattle.music_base.specs.Causes.{Rose}
 use Rattle.music_base.specs.Outside.{Gave, IsAtEnd, Took, TookPrefix}
-use Rattle.config_text.specs.FirstForm.{first_form}
 use Rattle.music_cli.specs.Words.{are_accepted}
-use Rattle.music_cli.specs.Answers.{Answers, number_of, usage_text, read_fault_text}
+use Rattle.music_cli.specs.Answers.{Answers, CanRun, number_of, usage_text, read_fault_text}
 use Rattle.music_cli.specs.declared.status.Status.{Status}
 use Rattle.music_cli.specs.declared.status.Status.TheVariants.{Done, Usage, ReadFault, WriteFault, NoMemory}
 
@@ -44,6 +43,12 @@ most_read = 1048577
 abbrev pub read_part : List ℕ → List ℕ
 read_part left = take most_read left
 
+-- what was read of a source: all that was left, or one byte more than the longest text has
+pub record IsRead (bytes : List ℕ) (source : Ends) : Type 0 where
+  pub gave : Gave source.before bytes source.after
+  pub size : length bytes ≤ most_read
+  pub whole : length bytes < most_read → IsAtEnd source.after
+
 -- ---- clauses for every source and sink
 
 -- the result is one of the statuses that can come at all
@@ -68,6 +73,11 @@ HasReadFaultCause words source sink result = result ≡ number_of ReadFault →
 abbrev pub HasWriteFaultCause : Ends → ℕ → Type 0
 HasWriteFaultCause sink result = result ≡ number_of WriteFault → Failed sink
 
+-- where accepted words get a status below that of a read fault, the source was read to its end, or one byte further than
+-- the longest text
+abbrev pub WasRead : List (List ℕ) → Ends → ℕ → Type 0
+WasRead words source result = IsTrue (are_accepted words) → result ≤ 5 → (bytes : List ℕ) × IsRead bytes source
+
 -- ---- clauses where the source tells its bytes
 
 -- a status below that of a read fault comes with a text: both are what these words and bytes get
@@ -84,10 +94,10 @@ abbrev pub HasPrefix : List (List ℕ) → Ends → Ends → ℕ → Type 0
 HasPrefix words source sink result = (bytes : List ℕ) → source.before ≡ Some bytes →
     ((result ≡ number_of WriteFault) ⊎ (result ≡ number_of NoMemory)) → (text : List ℕ) × IsText words bytes source text × WrotePrefix text sink
 
--- Completeness: accepted words and bytes that spell the first form are done, or memory gave out, where neither the
--- source nor the sink failed.
+-- Completeness: accepted words and bytes that spell a configuration that can be run are done, or memory gave out, where
+-- neither the source nor the sink failed.
 abbrev pub IsComplete : List (List ℕ) → Ends → Ends → ℕ → Type 0
-IsComplete words source sink result = (bytes : List ℕ) → source.before ≡ Some bytes → IsTrue (are_accepted words) → IsOk (first_form (read_part bytes)) →
+IsComplete words source sink result = (bytes : List ℕ) → source.before ≡ Some bytes → IsTrue (are_accepted words) → CanRun (read_part bytes) →
     (Failed source → ⊥) → (Failed sink → ⊥) → (result ≡ number_of Done) ⊎ (result ≡ number_of NoMemory)
 
 -- ---- how a call can end
@@ -105,12 +115,6 @@ pub record IsGiven (found : Status → List ℕ → Type 0) (sink : Ends) (resul
   pub found_so : found status text
   pub cases : ((result ≡ status) × Wrote text sink) ⊎ ((result ≡ WriteFault) × Failed sink) ⊎ (result ≡ NoMemory)
   pub prefix : WrotePrefix text sink
-
--- what was read of a source: all that was left, or one byte more than the longest text has
-pub record IsRead (bytes : List ℕ) (source : Ends) : Type 0 where
-  pub gave : Gave source.before bytes source.after
-  pub size : length bytes ≤ most_read
-  pub whole : length bytes < most_read → IsAtEnd source.after
 
 -- The four ways in which a call can end: the words were refused; the source failed; memory gave out before the bytes
 -- were read; or an answer was given to the bytes that were read.

@@ -30,6 +30,14 @@ fn kind_name(kind: TextKind) -> &'static [u8]
 {
     match kind {
         TextKind::TooLong => b"TooLong",
+        TextKind::BadByte => b"BadByte",
+        TextKind::BadLine => b"BadLine",
+        TextKind::BadName => b"BadName",
+        TextKind::BadWidth => b"BadWidth",
+        TextKind::RepeatedSection => b"RepeatedSection",
+        TextKind::RepeatedSetting => b"RepeatedSetting",
+        TextKind::TooManySections => b"TooManySections",
+        TextKind::TooManyLinks => b"TooManyLinks",
         TextKind::Unbuilt => b"Unbuilt",
     }
 }

@@ -12,6 +12,7 @@ ghost use Rattle.music_cli.specs.Clauses.{
   IsStatus,
   IsUsage,
   NotUsage,
+  WasRead,
 };
 
 use crate::running::run;
@@ -83,6 +84,8 @@ pub fn music_alone<S: Source, K: Sink>(
         (ends (K.taken sink.old) (K.taken sink.new) (K.faults sink.old) (K.faults sink.new)) result }
     ensures cause_of_a_write_fault { HasWriteFaultCause
         (ends (K.taken sink.old) (K.taken sink.new) (K.faults sink.old) (K.faults sink.new)) result }
+    ensures what_was_read_of_the_source { WasRead (texts words.now.items)
+        (ends (S.left source.old) (S.left source.new) (S.faults source.old) (S.faults source.new)) result }
 
     // where the source tells its bytes
     ensures answers { HasAnswer (texts words.now.items)
@@ -122,6 +125,8 @@ pub fn music<R: Threads + Wait + Sync, S: Source, K: Sink, G: Gate>(
         (ends (K.taken sink.old) (K.taken sink.new) (K.faults sink.old) (K.faults sink.new)) result }
     ensures cause_of_a_write_fault { HasWriteFaultCause
         (ends (K.taken sink.old) (K.taken sink.new) (K.faults sink.old) (K.faults sink.new)) result }
+    ensures what_was_read_of_the_source { WasRead (texts words.now.items)
+        (ends (S.left source.old) (S.left source.new) (S.faults source.old) (S.faults source.new)) result }
 
     // where the source tells its bytes
     ensures answers { HasAnswer (texts words.now.items)

@@ -1,5 +1,4 @@
-use Rattle.std.proofs.Common.{◌≡◌, List, ℕ, refl, sym, ap, ◌∙◌, inl, inr}
-use Rattle.music_base.specs.Outside.{Took, TookPrefix}
+use Rattle.std.proofs.Common.{◌≡◌, List, refl, ◌∙◌, inl, inr}
 use Rattle.scene_model.specs.Lives.{history}
 use Rattle.scene_model.specs.Logs.{rows, text_of, log_of}
 use Rattle.scene_model.specs.declared.scene.Scene.{Scene}

@@ -1,4 +1,4 @@
-use Rattle.music_cli.proofs.Endings.{has_answer, has_prefix, is_complete}
+use Rattle.music_cli.proofs.Endings.{has_answer, has_prefix, is_complete, was_read}
 use Rattle.music_cli.proofs.top.music_alone.Goals as goal
 
 pub returns-clause-answers : goal.returns-clause-answers
@@ -9,3 +9,6 @@ returns-clause-prefix g c = rw (c.number.ensures, ← c.deref.ensures.value) (ha
 
 pub returns-clause-completeness : goal.returns-clause-completeness
 returns-clause-completeness g c = rw (c.number.ensures, ← c.deref.ensures.value) (is_complete _ _ _ _ c.answer-status.ensures)
+
+pub returns-clause-what_was_read_of_the_source : goal.returns-clause-what_was_read_of_the_source
+returns-clause-what_was_read_of_the_source g c = rw (c.number.ensures, ← c.deref.ensures.value) (was_read _ _ _ _ c.answer-status.ensures)
