@@ -4,6 +4,8 @@
 #[cfg(test)]
 mod calls;
 #[cfg(test)]
+mod config_texts;
+#[cfg(test)]
 mod refused_memory;
 #[cfg(test)]
 mod runs;

@@ -14,44 +14,102 @@ struct Case<'a> {
     taken: &'a [u8],
 }
 
-fn plain_case<'a>(words: &'a [&'a str], text: &'a [u8], status: u8, taken: &'a [u8]) -> Case<'a> {
+const RUN: Case<'static> = Case {
+    words: &["run"],
+    text: SPIKES,
+    fails: &[],
+    room: 1000,
+    status: 0,
+    taken: SPIKES_LOG,
+};
+
+const REFUSED: Case<'static> = Case {
+    status: 2,
+    taken: USAGE,
+    ..RUN
+};
+
+const FAULTY: Case<'static> = Case { status: 3, ..RUN };
+
+const CASES: &[Case<'static>] = &[
+    RUN,
     Case {
-        words,
-        text,
-        fails: &[],
-        room: 1000,
-        status,
-        taken,
-    }
-}
+        text: SLOW,
+        taken: SLOW_LOG,
+        ..RUN
+    },
+    Case {
+        text: UNHEARD,
+        taken: HEADER,
+        ..RUN
+    },
+    Case {
+        text: b"",
+        taken: b"text fault: line 1: Unbuilt\n",
+        ..FAULTY
+    },
+    Case {
+        text: b"stoptime=1\n[gen",
+        taken: b"text fault: line 2: BadLine\n",
+        ..FAULTY
+    },
+    Case {
+        text: b"[a]\n[a]\n",
+        taken: b"text fault: line 2: RepeatedSection\n",
+        ..FAULTY
+    },
+    Case {
+        text: b"[a]\nnp=1\nnp=1\n",
+        taken: b"text fault: line 3: RepeatedSetting\n",
+        ..FAULTY
+    },
+    Case {
+        text: b"a.b -> c.d [0]",
+        taken: b"text fault: line 1: BadWidth\n",
+        ..FAULTY
+    },
+    Case {
+        text: b"[a b]",
+        taken: b"text fault: line 1: BadName\n",
+        ..FAULTY
+    },
+    Case {
+        text: b"\n\n\x00",
+        taken: b"text fault: line 3: BadByte\n",
+        ..FAULTY
+    },
+    Case {
+        words: &["run", "x"],
+        ..REFUSED
+    },
+    Case {
+        words: &["check"],
+        ..REFUSED
+    },
+    Case {
+        words: &[],
+        ..REFUSED
+    },
+    // a sink whose room is used up takes no more
+    Case {
+        room: 40,
+        status: 7,
+        taken: b"clock,app,port,kind,rank,local,global,ti",
+        ..RUN
+    },
+    // a source that fails its second call
+    Case {
+        fails: &[2],
+        status: 6,
+        taken: b"read fault\n",
+        ..RUN
+    },
+];
 
 #[test]
 fn words_and_texts_get_their_answers(rt: HostRuntime) -> Result<(), Fail> {
     let alloc = rt.alloc();
-    for case in [
-        plain_case(&["run"], SPIKES, 0, SPIKES_LOG),
-        plain_case(&["run"], SLOW, 0, SLOW_LOG),
-        plain_case(&["run"], UNHEARD, 0, HEADER),
-        plain_case(&["run"], b"", 3, b"text fault: line 1: Unbuilt\n"),
-        plain_case(&["run", "x"], SPIKES, 2, USAGE),
-        plain_case(&["check"], SPIKES, 2, USAGE),
-        plain_case(&[], SPIKES, 2, USAGE),
-        // a sink whose room is used up takes no more
-        Case {
-            room: 40,
-            ..plain_case(
-                &["run"],
-                SPIKES,
-                7,
-                b"clock,app,port,kind,rank,local,global,ti",
-            )
-        },
-        // a source that fails its second call
-        Case {
-            fails: &[2],
-            ..plain_case(&["run"], SPIKES, 6, b"read fault\n")
-        },
-    ] {
+    for case in CASES {
         assert!(rt; case.room <= 1000);
         let words = words_of(alloc, case.words)?;
         let mut sink = MemorySink::make(alloc, 40, case.room).map_err(|_| "no memory")?;
@@ -77,5 +135,17 @@ fn words_and_texts_get_their_answers(rt: HostRuntime) -> Result<(), Fail> {
         );
         assert_eq!(rt; sink.taken(), case.taken);
     }
+    Ok(())
+}
+
+#[test]
+fn a_text_that_is_too_long_is_refused(rt: HostRuntime) -> Result<(), Fail> {
+    let alloc = rt.alloc();
+    let words = words_of(alloc, &["run"])?;
+    let blanks = vec![in alloc; b' '; 1_048_577]?;
+    let mut source = MemorySource::make(blanks, 65_536, Vec::new(alloc));
+    let mut sink = MemorySink::make(alloc, 40, 1000).map_err(|_| "no memory")?;
+    assert_eq!(rt; music_alone(alloc, &words, &mut source, &mut sink), 3);
+    assert_eq!(rt; sink.taken(), b"text fault: line 0: TooLong\n".as_slice());
     Ok(())
 }
