@@ -1,1 +1,10 @@
+pub mod Ascending
+pub mod Counts
+pub mod Joining
+pub mod OneSpan
+pub mod Pigeonholes
+pub mod Ranges
+pub mod Repeats
+pub mod Sharing
 pub mod Spans
+pub mod Splits

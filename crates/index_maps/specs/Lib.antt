@@ -1,3 +1,6 @@
 pub mod Indices
+pub mod Intervals
 pub mod Maps
+pub mod Ranks
+pub mod Repeats
 pub mod WorkedMaps

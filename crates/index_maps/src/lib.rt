@@ -4,12 +4,19 @@
 //! indices, or a permutation, a list of indices in any order.
 #![tactic(auto)]
 
+mod interval;
 mod laws;
 mod list;
 mod map;
+mod mapping;
+mod permuting;
+mod rank;
 mod span;
 
+pub use interval::Interval;
 pub use laws::maps_compute;
 pub use list::IndexList;
 pub use map::{IndexMap, PortMap};
+pub use permuting::{MapFault, permutation};
+pub use rank::RankMap;
 pub use span::{INDEX_LIMIT, Span};

@@ -1,5 +1,7 @@
-ghost use Rattle.std.specs.Prelude.{◌≡◌, true};
+ghost use Rattle.std.specs.Prelude.{◌≡◌, ◌==◌, ◌<◌, ◌≤◌, true, length, IfSome};
+ghost use Rattle.std.specs.List.{list_any, position};
 ghost use Rattle.index_maps.specs.Indices.{are_indices};
+ghost use Rattle.index_maps.specs.declared.span.TheConstants.{INDEX_LIMIT};
 
 use music_base::{NoMemory, TryCopy};
 use std::alloc::Global;
@@ -22,6 +24,13 @@ impl Model for IndexList {
     ghost invariant = { λ list. are_indices list.indices.items ≡ true };
 }
 
+fn index_place(indices: &[u32], global: u32) -> Option<usize>
+    ensures place { result ≡ position (λ i. i == global) indices.now }
+    ensures within { IfSome result (λ place. place < length indices.now) }
+{
+    indices.iter().position(|i| *i == global)
+}
+
 impl IndexList {
     /// The list of these indices, each below the limit and none twice. It takes no memory.
     pub fn from_vec(indices: Vec<u32>) -> IndexList
@@ -36,6 +45,31 @@ impl IndexList {
         ensures differ { are_indices self.now ≡ true }
     {
         self.indices.as_slice()
+    }
+
+    /// How many indices there are.
+    #[tactic(auto, using(crate::proofs::Pigeonholes::indices_are_few))]
+    pub fn len(&self) -> u32
+        ensures length { result ≡ length self.now }
+        ensures limit { length self.now ≤ INDEX_LIMIT }
+    {
+        self.as_slice().len() as u32
+    }
+
+    /// Whether the index is in the list.
+    pub fn holds(&self, global: u32) -> bool
+        ensures { result ≡ list_any (λ i. i == global) self.now }
+    {
+        self.as_slice().iter().any(|i| *i == global)
+    }
+
+    /// The local place of a global index, where it is in the list.
+    #[tactic(auto, using(crate::proofs::Pigeonholes::indices_are_few))]
+    pub fn local_of(&self, global: u32) -> Option<u32>
+        ensures { result ≡ position (λ i. i == global) self.now }
+    {
+        let place = index_place(self.as_slice(), global)?;
+        Some(place as u32)
     }
 }
 

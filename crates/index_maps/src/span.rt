@@ -1,4 +1,5 @@
-ghost use Rattle.std.specs.Prelude.{◌≡◌, ◌+◌, ◌≤◌};
+ghost use Rattle.std.specs.Prelude.{◌≡◌, ◌==◌, ◌+◌, ◌≤◌, ◌&&◌, nat_le, nat_lt, slice_get};
+ghost use Rattle.std.specs.List.{list_any, position, range_with_len};
 
 use std::marker::Model;
 
@@ -26,6 +27,12 @@ impl Model for Span {
     ghost inverse = { λ extent. record { base = extent.base; size = extent.size } };
 }
 
+fn is_between(first: u32, after: u32, index: u32) -> bool
+    ensures { result ≡ (nat_le first index && nat_lt index after) }
+{
+    first <= index && index < after
+}
+
 impl Span {
     /// The indices from `base` up to `base + size`, the latter excluded.
     pub fn new(base: u32, size: u32) -> Span
@@ -50,5 +57,37 @@ impl Span {
         ensures limit { self.base + self.size ≤ INDEX_LIMIT }
     {
         self.size
+    }
+
+    /// The index at a local place, where the place is below the size.
+    #[tactic(auto, using(crate::proofs::Ranges::slice_get_range))]
+    pub fn global_of(self, local: u32) -> Option<u32>
+        ensures { result ≡ slice_get (range_with_len self.base self.size) local }
+    {
+        if local < self.size {
+            Some(self.base + local)
+        } else {
+            None
+        }
+    }
+
+    /// Whether the index is in the span.
+    #[tactic(auto, using(crate::proofs::Ranges::list_any_range))]
+    pub fn holds(self, global: u32) -> bool
+        ensures { result ≡ list_any (λ i. i == global) (range_with_len self.base self.size) }
+    {
+        is_between(self.base(), self.base() + self.size(), global)
+    }
+
+    /// The local place of an index, where it is in the span.
+    #[tactic(auto, using(crate::proofs::Ranges::position_within, crate::proofs::Ranges::position_outside))]
+    pub fn local_of(self, global: u32) -> Option<u32>
+        ensures { result ≡ position (λ i. i == global) (range_with_len self.base self.size) }
+    {
+        if self.holds(global) {
+            Some(global - self.base())
+        } else {
+            None
+        }
     }
 }

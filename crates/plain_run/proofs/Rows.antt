@@ -26,7 +26,7 @@ use Rattle.scene_model.specs.declared.row.Row.{Row}
 use Rattle.scene_model.specs.declared.row.RowItem.{RowItem}
 use Rattle.scene_model.specs.declared.row.RowItem.TheVariants.{Event as EventRow}
 use Rattle.plain_run.specs.Plain.{event_port, source, sink, scene_of, source_end, event_count, event_times, sink_step, maps_events, has_row, row_of, plain_rows}
-use Rattle.index_maps.proofs.Spans.{maps_index-one_span}
+use Rattle.index_maps.proofs.OneSpan.{maps_index-one_span}
 use Rattle.scene_model.proofs.Places.{places_of-range_with_len}
 use Rattle.scene_model.proofs.Times.{times_between-steps, times_between-from_zero}
 use Rattle.plain_run.proofs.History.{emission, source_steps, sink_steps, steps-source, steps-sink, table_of, history-is}
