@@ -1,0 +1,5 @@
+pub mod Counts
+pub mod InTurn
+pub mod Options
+pub mod Parts
+pub mod Words

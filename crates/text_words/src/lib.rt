@@ -1,0 +1,14 @@
+//! The value of a setting as text: pieces between `;`, words between blanks, and the small numbers that words spell.
+#![tactic(auto)]
+
+mod counts;
+mod cut;
+mod decimals;
+mod laws;
+mod pieces;
+
+pub use counts::{count_up_to, signed_within};
+pub use cut::{around, cut_at, is_key};
+pub use decimals::fixed;
+pub use laws::{first_faults, small_texts};
+pub use pieces::{split_declaration, split_word};
