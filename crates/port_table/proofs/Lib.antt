@@ -1,0 +1,4 @@
+pub mod EachParts
+pub mod Faults
+pub mod OptionSteps
+pub mod Repeating

@@ -1,0 +1,13 @@
+use Rattle.std.proofs.Common.{◌≡◌, ◌+◌, length}
+use Rattle.std.specs.Prelude.{is_some}
+use Rattle.std.specs.Option.{option_copied, option_map_or}
+use Rattle.text_words.specs.Parts.{parts, parts_left}
+use Rattle.text_words.specs.Options.{each}
+use Rattle.port_table.specs.MapWords.{rank_map, slash}
+use Rattle.port_table.proofs.map_words.are_rank_maps.Given as goal
+
+abbrev pub invariant-loop-rest : goal.invariant-loop-rest
+invariant-loop-rest l = is_some (each (rank_map) (parts_left slash (option_copied l.rest))) ≡ is_some (each rank_map (parts slash l.word))
+
+abbrev pub decreases-loop-rest : goal.decreases-loop-rest
+decreases-loop-rest l = option_map_or (λ bytes. 1 + length bytes.now) l.rest 0

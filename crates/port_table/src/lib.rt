@@ -1,0 +1,14 @@
+//! The ports that the value of `ports` declares.
+#![tactic(auto)]
+
+mod fault;
+mod laws;
+mod map_reading;
+mod map_words;
+mod options;
+mod port_text;
+mod reading;
+
+pub use fault::PortFault;
+pub use laws::{first_faults, small_texts};
+pub use reading::read_ports;
