@@ -1,0 +1,6 @@
+pub mod Faultless
+pub mod Named
+pub mod RuleForms
+pub mod Spelling
+pub mod Steps
+pub mod Turns

@@ -1,0 +1,105 @@
+-- What one word spells lies within the limits.
+use Rattle.std.proofs.Common.{◌≡◌, ℕ, zero, suc, ◌+◌, ◌*◌, ◌/◌, ◌^◌, ◌<◌, Bool, true, false, List, refl, arith}
+use Rattle.std.specs.Prelude.{Result, Ok, Err, IfSome, IfOk, nat_le, ◌&&◌, ℤ, if◌then◌else◌}
+use Rattle.std.specs.Result.{result_ok}
+use Rattle.std.specs.List.{before_first, after_first}
+use Rattle.std.specs.Str.Parse.{digits_value, starts_with_minus, without_leading_sign}
+use Rattle.std.proofs.lemmas.Bool.{and_parts, le-leb}
+use Rattle.music_base.specs.Names.{is_name, is_word}
+use Rattle.music_base.specs.Times.{greatest_time, time_value, scaled, in_range, digits_of, raised, lowered}
+use Rattle.music_base.specs.declared.times.TimeFault.{TimeFault}
+use Rattle.music_base.specs.declared.times.TimeFault.TheVariants.{NotWhole, Spelling, Range}
+use Rattle.text_words.specs.Counts.{is_count, count_up_to, with_sign, signed_within, is_decimal, whole, fraction, worth, millionths, without_minus, fixed, most_whole_digits, most_fraction_digits}
+use Rattle.text_words.specs.Parts.{is_byte}
+use Rattle.text_words.proofs.Digits.{digits_value-below, worth_below, whole_is_few, fraction_is_few}
+use Rattle.app_scripts.specs.Forms.{name_word, index_word, time_word, shift_word, slash, scale_word, message_word, greatest_shift, greatest_numerator, greatest_denominator, greatest_index}
+use Rattle.app_scripts.specs.Spellable.{greatest_value, is_index, is_time, lies_within, is_value, is_denominator}
+use Rattle.app_scripts.proofs.Steps.{IfSome-bind, IfSome-when, IfSome-map}
+
+-- ---- counts and signs
+
+count_is : (most : ℕ) (text : List ℕ) → IfSome (count_up_to most text) (λ n. nat_le n most ≡ true)
+unfolding count_up_to
+count_is most text = IfSome-when (λ n. nat_le n most ≡ true) (digits_value 10 text) (is_count text && nat_le (digits_value 10 text) most) (λ is. (and_parts _ _ is).1)
+
+within_is : (most n : ℕ) (negative : Bool) → nat_le n most ≡ true → lies_within most (with_sign negative n) ≡ true
+within_is most n false is = is
+within_is most zero true is = is
+within_is most (suc n) true is = is
+
+signed_is : (most : ℕ) (text : List ℕ) → IfSome (signed_within most text) (λ z. lies_within most z ≡ true)
+unfolding signed_within
+signed_is most text =
+    IfSome-map (λ n. nat_le n most ≡ true) (λ z. lies_within most z ≡ true) (with_sign (starts_with_minus text)) (count_up_to most (without_leading_sign text))
+    (count_is most (without_leading_sign text)) (λ n is. within_is most n (starts_with_minus text) is)
+
+-- ---- values
+
+millionths_is : (text : List ℕ) → IfSome (millionths text) (λ n. nat_le n greatest_value ≡ true)
+unfolding millionths
+millionths_is text =
+    IfSome-when (λ n. nat_le n greatest_value ≡ true) (digits_value 10 (whole text) * 10 ^ most_fraction_digits + worth (fraction text)) (is_decimal text) (λ is.
+    let before = whole_is_few text is in
+    let behind = fraction_is_few text is in
+    let low : digits_value 10 (whole text) < 10 ^ most_whole_digits = digits_value-below most_whole_digits (whole text) before.0 before.1 in
+    let high : worth (fraction text) < 10 ^ most_fraction_digits = worth_below (fraction text) behind.0 behind.1 in
+    le-leb _ _ (omega (arith, low, high)))
+
+pub fixed_is : (text : List ℕ) → IfSome (fixed text) (λ v. is_value v ≡ true)
+unfolding fixed
+fixed_is text =
+    IfSome-map (λ n. nat_le n greatest_value ≡ true) (λ v. is_value v ≡ true) (with_sign (starts_with_minus text)) (millionths (without_minus text))
+    (millionths_is (without_minus text)) (λ n is. within_is greatest_value n (starts_with_minus text) is)
+
+-- ---- times
+
+IfOk-test : (P : ℕ → Type 0) (test : Bool) (r : Result ℕ TimeFault) (e : TimeFault) → IfOk r P → IfOk (if test then r else Err e) P
+IfOk-test P true r e is = is
+IfOk-test P false r e is = tt
+
+in_range_is : (n : ℕ) → IfOk (in_range n) (λ time. is_time time ≡ true)
+in_range_is n = elim (nat_le n greatest_time) as (λ b. nat_le n greatest_time ≡ b → IfOk (if b then Ok n else Err Range) (λ time. is_time time ≡ true)) [ true ↦ (λ is. is) | false ↦ (λ is. tt) ] refl
+
+scaled_is : (digits up down : ℕ) → IfOk (scaled digits up down) (λ time. is_time time ≡ true)
+unfolding scaled
+scaled_is digits up down = IfOk-test (λ time. is_time time ≡ true) _ _ NotWhole (in_range_is ((digits * 10 ^ up) / 10 ^ down))
+
+time_value_is : (text : List ℕ) → IfOk (time_value text) (λ time. is_time time ≡ true)
+unfolding time_value
+time_value_is text = IfOk-test (λ time. is_time time ≡ true) _ _ Spelling (scaled_is (digits_of text) (raised text) (lowered text))
+
+from_ok : (r : Result ℕ TimeFault) → IfOk r (λ time. is_time time ≡ true) → IfSome (result_ok r) (λ time. is_time time ≡ true)
+from_ok (Ok time) is = is
+from_ok (Err fault) is = tt
+
+-- ---- words
+
+pub name_is : (word : List ℕ) → IfSome (name_word word) (λ name. is_name name ≡ true)
+unfolding name_word
+name_is word = IfSome-when (λ name. is_name name ≡ true) word (is_name word) (λ is. is)
+
+pub message_is : (word : List ℕ) → IfSome (message_word word) (λ message. is_word message ≡ true)
+unfolding message_word
+message_is word = IfSome-when (λ message. is_word message ≡ true) word (is_word word) (λ is. is)
+
+pub index_is : (word : List ℕ) → IfSome (index_word word) (λ index. is_index index ≡ true)
+unfolding index_word
+index_is word = count_is greatest_index word
+
+pub time_is : (word : List ℕ) → IfSome (time_word word) (λ time. is_time time ≡ true)
+unfolding time_word
+time_is word = from_ok (time_value word) (time_value_is word)
+
+pub shift_is : (word : List ℕ) → IfSome (shift_word word) (λ shift. lies_within greatest_shift shift ≡ true)
+unfolding shift_word
+shift_is word = signed_is greatest_shift word
+
+abbrev pub IsScale : ℤ × ℕ → Type 0
+IsScale scale = (lies_within greatest_numerator scale.0 ≡ true) × (is_denominator scale.1 ≡ true)
+
+pub scale_is : (word : List ℕ) → IfSome (scale_word word) IsScale
+unfolding scale_word
+scale_is word =
+    IfSome-bind (λ n. lies_within greatest_numerator n ≡ true) IsScale _ _ (signed_is greatest_numerator (before_first (is_byte slash) word)) (λ n near.
+    IfSome-bind (λ m. nat_le m greatest_denominator ≡ true) IsScale _ _ (count_is greatest_denominator (after_first (is_byte slash) word)) (λ m few.
+    IfSome-when IsScale (n, m) (nat_le 1 m) (λ some. (near, rw (some, few) refl))))

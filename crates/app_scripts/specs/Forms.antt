@@ -1,0 +1,191 @@
+-- The nine forms of a rule. Each reads a rule's words from the front, and gives nothing where they have not the form.
+use Rattle.std.specs.Prelude.{ℕ, nat_le, bytes_eq, if◌then◌else◌, List, [], ◌∷◌, ℤ, Option, Some, None, codes}
+use Rattle.std.specs.List.{before_first, after_first}
+use Rattle.std.specs.Result.{result_ok}
+use Rattle.music_base.specs.Names.{is_name, is_word}
+use Rattle.music_base.specs.Times.{time_value}
+use Rattle.text_words.specs.Counts.{count_up_to, signed_within, fixed}
+use Rattle.text_words.specs.Options.{◌>>=◌, ◌when◌, first_some}
+use Rattle.text_words.specs.Parts.{is_byte}
+use Rattle.scene_model.specs.declared.rule.Rule.{Rule}
+use Rattle.scene_model.specs.declared.rule.Rule.TheVariants.{EmitAt, EmitEvery, Pass, SetValue, Ramp, CopyValues, When, Say, Reply}
+
+-- ---- what one word spells
+
+-- how far from zero a shift of indices and the numerator of a scale may lie, and how great a denominator may be
+abbrev pub greatest_shift : ℕ
+greatest_shift = 65_535
+
+abbrev pub greatest_numerator : ℕ
+greatest_numerator = 1_000_000
+
+abbrev pub greatest_denominator : ℕ
+greatest_denominator = 1_000_000
+
+-- the greatest global index
+abbrev pub greatest_index : ℕ
+greatest_index = 65_535
+
+-- a NAME
+unfoldable pub name_word : List ℕ → Option (List ℕ)
+name_word word = word when is_name word
+
+-- an INDEX: a COUNT that is a global index
+unfoldable pub index_word : List ℕ → Option ℕ
+index_word word = count_up_to greatest_index word
+
+-- a time, in nanoseconds
+unfoldable pub time_word : List ℕ → Option ℕ
+time_word word = result_ok (time_value word)
+
+-- the shift of an index
+unfoldable pub shift_word : List ℕ → Option ℤ
+shift_word word = signed_within greatest_shift word
+
+-- '/'
+abbrev pub slash : ℕ
+slash = 47
+
+-- a scale n/m, one word: a numerator and a denominator of at least 1
+unfoldable pub scale_word : List ℕ → Option (ℤ × ℕ)
+scale_word word = do
+  numerator ← signed_within greatest_numerator (before_first (is_byte slash) word)
+  denominator ← count_up_to greatest_denominator (after_first (is_byte slash) word)
+  (numerator, denominator) when nat_le 1 denominator
+
+-- the word of a message
+unfoldable pub message_word : List ℕ → Option (List ℕ)
+message_word word = word when is_word word
+
+-- ---- words in turn
+
+-- the words of a rule
+abbrev pub Words : Type 0
+Words = List (List ℕ)
+
+-- the words after this one
+abbrev pub after : List ℕ → Words → Option Words
+after key [] = None
+after key (word ∷ words) = if bytes_eq word key then Some words else None
+
+-- what the first word spells, and the words after it
+abbrev pub first : {A : Type 0} → (List ℕ → Option A) → Words → Option (A × Words)
+first spelled [] = None
+first spelled (word ∷ words) = spelled word >>= λ x. Some (x, words)
+
+-- what the only word spells: none follows
+abbrev pub only : {A : Type 0} → (List ℕ → Option A) → Words → Option A
+only spelled (word ∷ []) = spelled word
+only spelled _ = None
+
+-- a word, and what the next one spells
+unfoldable pub name_after : List ℕ → Words → Option (List ℕ × Words)
+name_after key words = after key words >>= first name_word
+
+unfoldable pub time_after : List ℕ → Words → Option (ℕ × Words)
+time_after key words = after key words >>= first time_word
+
+unfoldable pub fixed_after : List ℕ → Words → Option (ℤ × Words)
+fixed_after key words = after key words >>= first fixed
+
+unfoldable pub shift_after : List ℕ → Words → Option (ℤ × Words)
+shift_after key words = after key words >>= first shift_word
+
+unfoldable pub scale_after : List ℕ → Words → Option ((ℤ × ℕ) × Words)
+scale_after key words = after key words >>= first scale_word
+
+-- a word, and what the last one spells
+unfoldable pub last_time_after : List ℕ → Words → Option ℕ
+last_time_after key words = after key words >>= only time_word
+
+unfoldable pub last_fixed_after : List ℕ → Words → Option ℤ
+last_fixed_after key words = after key words >>= only fixed
+
+-- ---- the forms
+
+-- emit PORT INDEX at TIME
+unfoldable pub emit_at : Words → Option Rule
+emit_at words = do
+  port ← name_after (codes "emit") words
+  index ← first index_word port.1
+  time ← last_time_after (codes "at") index.1
+  Some (EmitAt port.0 index.0 time)
+
+-- emit PORT INDEX every EVERY from FIRST
+unfoldable pub emit_every : Words → Option Rule
+emit_every words = do
+  port ← name_after (codes "emit") words
+  index ← first index_word port.1
+  every ← time_after (codes "every") index.1
+  from ← last_time_after (codes "from") every.1
+  Some (EmitEvery port.0 index.0 every.0 from)
+
+-- pass INPUT to OUTPUT shift SHIFT after AFTER
+unfoldable pub pass : Words → Option Rule
+pass words = do
+  input ← name_after (codes "pass") words
+  output ← name_after (codes "to") input.1
+  shift ← shift_after (codes "shift") output.1
+  after ← last_time_after (codes "after") shift.1
+  Some (Pass input.0 output.0 shift.0 after)
+
+-- set PORT INDEX VALUE
+unfoldable pub set_value : Words → Option Rule
+set_value words = do
+  port ← name_after (codes "set") words
+  index ← first index_word port.1
+  value ← only fixed index.1
+  Some (SetValue port.0 index.0 value)
+
+-- ramp PORT INDEX from START by BY
+unfoldable pub ramp : Words → Option Rule
+ramp words = do
+  port ← name_after (codes "ramp") words
+  index ← first index_word port.1
+  start ← fixed_after (codes "from") index.1
+  by ← last_fixed_after (codes "by") start.1
+  Some (Ramp port.0 index.0 start.0 by)
+
+-- copy INPUT to OUTPUT scale NUMERATOR/DENOMINATOR add ADD
+unfoldable pub copy_values : Words → Option Rule
+copy_values words = do
+  input ← name_after (codes "copy") words
+  output ← name_after (codes "to") input.1
+  scale ← scale_after (codes "scale") output.1
+  add ← last_fixed_after (codes "add") scale.1
+  Some (CopyValues input.0 output.0 scale.0.0 scale.0.1 add)
+
+-- when INPUT INDEX over OVER emit OUTPUT EMITTED
+unfoldable pub when_over : Words → Option Rule
+when_over words = do
+  input ← name_after (codes "when") words
+  index ← first index_word input.1
+  over ← fixed_after (codes "over") index.1
+  output ← name_after (codes "emit") over.1
+  emitted ← only index_word output.1
+  Some (When input.0 index.0 over.0 output.0 emitted)
+
+-- say PORT WORD every EVERY from FIRST
+unfoldable pub say : Words → Option Rule
+say words = do
+  port ← name_after (codes "say") words
+  word ← first message_word port.1
+  every ← time_after (codes "every") word.1
+  from ← last_time_after (codes "from") every.1
+  Some (Say port.0 word.0 every.0 from)
+
+-- reply INPUT to OUTPUT after AFTER
+unfoldable pub reply : Words → Option Rule
+reply words = do
+  input ← name_after (codes "reply") words
+  output ← name_after (codes "to") input.1
+  after ← last_time_after (codes "after") output.1
+  Some (Reply input.0 output.0 after)
+
+-- the nine forms. No words have two of them
+abbrev pub forms : List (Words → Option Rule)
+forms = emit_at ∷ emit_every ∷ pass ∷ set_value ∷ ramp ∷ copy_values ∷ when_over ∷ say ∷ reply ∷ []
+
+-- the rule that the words spell
+unfoldable pub rule_in : Words → Option Rule
+rule_in words = first_some (λ form. form words) forms

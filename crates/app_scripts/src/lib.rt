@@ -1,0 +1,16 @@
+//! Rules of an application, in text: which rules a text spells, and which is the first faulty one.
+//!
+//! A text of rules is cut at each `;`. A piece of blanks alone is skipped and not counted.
+#![tactic(auto)]
+
+mod fault;
+mod forms;
+mod laws;
+mod reading;
+mod spelled;
+mod standing;
+mod words;
+
+pub use fault::RuleFault;
+pub use laws::{spelled_rules_stand, worked_rules};
+pub use reading::read_rules;
