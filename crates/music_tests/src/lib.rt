@@ -6,6 +6,8 @@ mod calls;
 #[cfg(test)]
 mod config_texts;
 #[cfg(test)]
+mod declarations;
+#[cfg(test)]
 mod refused_memory;
 #[cfg(test)]
 mod runs;
