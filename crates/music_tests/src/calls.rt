@@ -4,7 +4,8 @@ use config_text::{TextFault, TextKind, first_form};
 use index_maps::{IndexList, IndexMap, PortMap, Span};
 use music_base::{
     AppId, Block, Event, Item, Items, MemorySink, MemorySource, Message, Name, Nanos, NoMemory,
-    PortId, Rank, Sample, TryCopy, Word, copy_all, is_name, read_all, write_time,
+    PortId, Rank, Sample, TimeFault, TryCopy, Word, copy_all, is_name, read_all, read_time,
+    write_time,
 };
 use plain_run::{plain_rows, scene_of};
 use run_logs::write_rows;
@@ -193,6 +194,26 @@ fn copies_are_equal(rt: HostRuntime) -> Result<(), Fail> {
         },
     ] {
         assert!(rt; copies(alloc, &row(item))?);
+    }
+    Ok(())
+}
+
+#[test]
+fn times_are_read(rt: HostRuntime) -> Result<(), Fail> {
+    for (text, time) in [
+        (b"1e-3".as_slice(), Ok(Nanos(1_000_000))),
+        (b".5", Ok(Nanos(500_000_000))),
+        (b"1.50e0", Ok(Nanos(1_500_000_000))),
+        (b"0e-99", Ok(Nanos(0))),
+        (b"1000000", Ok(Nanos(1_000_000_000_000_000))),
+        (b"1000001", Err(TimeFault::Range)),
+        (b"1e-10", Err(TimeFault::NotWhole)),
+        (b"", Err(TimeFault::Spelling)),
+        (b".", Err(TimeFault::Spelling)),
+        (b"1e", Err(TimeFault::Spelling)),
+        (b"-1", Err(TimeFault::Spelling)),
+    ] {
+        assert_eq!(rt; read_time(text), time);
     }
     Ok(())
 }
