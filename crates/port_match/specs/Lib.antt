@@ -1,0 +1,5 @@
+pub mod Covering
+pub mod Fitting
+pub mod Links
+pub mod Made
+pub mod SmallScenes
