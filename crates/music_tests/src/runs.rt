@@ -2,6 +2,7 @@
 use crate::texts::{HEADER, SLOW, SLOW_LOG, SPIKES, SPIKES_LOG, UNHEARD, USAGE, words_of};
 use music_base::{FreeGate, MemorySink, MemorySource};
 use music_cli::{music, music_alone};
+use std::alloc::Global;
 use std::test::Fail;
 
 #[derive(Clone, Copy)]
@@ -106,29 +107,40 @@ const CASES: &[Case<'static>] = &[
     },
 ];
 
+// The words, the source and the sink of a case.
+fn ends_of(
+    alloc: Global,
+    case: &Case<'_>,
+) -> Result<(Vec<String>, MemorySource, MemorySink), Fail> {
+    if case.room > 1000 {
+        return Err(Fail::from("a smaller room"));
+    }
+    let words = words_of(alloc, case.words)?;
+    let (text, fails) = (case.text.to_vec(alloc)?, case.fails.to_vec(alloc)?);
+    let source = MemorySource::make(text, 10, fails);
+    let sink = MemorySink::make(alloc, 40, case.room).map_err(|_| "no memory")?;
+    Ok((words, source, sink))
+}
+
 #[test]
-fn words_and_texts_get_their_answers(rt: HostRuntime) -> Result<(), Fail> {
+fn one_worker_gives_the_answers(rt: HostRuntime) -> Result<(), Fail> {
     let alloc = rt.alloc();
     for case in CASES {
-        assert!(rt; case.room <= 1000);
-        let words = words_of(alloc, case.words)?;
-        let mut sink = MemorySink::make(alloc, 40, case.room).map_err(|_| "no memory")?;
-        let mut source = MemorySource::make(
-            case.text.to_vec(alloc)?,
-            10,
-            case.fails.to_vec(alloc)?,
-        );
+        let (words, mut source, mut sink) = ends_of(alloc, case)?;
         assert_eq!(rt;
             music_alone(alloc, &words, &mut source, &mut sink),
             case.status
         );
         assert_eq!(rt; sink.taken(), case.taken);
-        let mut sink = MemorySink::make(alloc, 40, case.room).map_err(|_| "no memory")?;
-        let mut source = MemorySource::make(
-            case.text.to_vec(alloc)?,
-            10,
-            case.fails.to_vec(alloc)?,
-        );
+    }
+    Ok(())
+}
+
+#[test]
+fn the_program_gives_the_answers(rt: HostRuntime) -> Result<(), Fail> {
+    let alloc = rt.alloc();
+    for case in CASES {
+        let (words, mut source, mut sink) = ends_of(alloc, case)?;
         assert_eq!(rt;
             music(&rt, alloc, &words, &mut source, &mut sink, &FreeGate),
             case.status
