@@ -1,0 +1,21 @@
+-- Each section is read behind those before it.
+use Rattle.std.proofs.Common.{refl, sym, ◌∙◌}
+use Rattle.std.proofs.lemmas.List.{length-append}
+use Rattle.std.proofs.lemmas.List.Elements.{All-push}
+use Rattle.music_setup.specs.Apps.{HasFewPorts}
+use Rattle.music_setup.proofs.Next.{next_app, next_fault}
+use Rattle.music_setup.proofs.apps.apps_until.Goals as goal
+
+pub returns-in-Err-Kind-clause-fault : goal.returns-in-Err-Kind-clause-fault
+returns-in-Err-Kind-clause-fault c =
+    let gave = rw c.in-Err-Kind.field-0-is at c.in-Err-Kind.ensures.fault in
+    rw c.in-Err-Kind.kind-is (sym c.loop-place.invariant.read ∙ next_fault c.args.config.now c.args.stop c.loop-place.place c.loop-place.apps _ c.in-Err-Kind.kind c.pair_at.ensures c.loop-place.invariant.counted gave)
+
+pub loop-place-preserved : goal.loop-place-preserved
+loop-place-preserved c =
+    let next = next_app c.args.config.now c.args.stop c.loop-place.place c.loop-place.apps _ c.in-Ok.app c.pair_at.ensures c.loop-place.invariant.counted c.in-Ok.ensures.app in
+    rw c.in_ok-push-in-Ok.ensures.ok (record {
+      read = sym next ∙ c.loop-place.invariant.read;
+      counted = rw (length-append, c.loop-place.invariant.counted) refl;
+      few = All-push HasFewPorts c.loop-place.apps c.in-Ok.app c.loop-place.invariant.few c.in-Ok.ensures.few;
+    })

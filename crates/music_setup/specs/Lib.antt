@@ -1,0 +1,7 @@
+pub mod Limits
+pub mod Values
+pub mod Apps
+pub mod Faults
+pub mod Scenes
+pub mod Texts
+pub mod SmallScenes

@@ -1,0 +1,135 @@
+-- The text of each fault, a line with its end.
+use Rattle.std.specs.Prelude.{ℕ, suc, ⊤, ◌<◌, List, [], ◌∷◌, ◌++◌, length, slice_index_or, codes, Option, Some, None}
+use Rattle.std.specs.Fmt.{decimal}
+use Rattle.config_text.specs.Pairs.{SettingList}
+use Rattle.config_text.specs.declared.config.Config.{Config}
+use Rattle.config_text.specs.declared.text_kind.TextKind.{TextKind}
+use Rattle.config_text.specs.declared.text_kind.TextKind.TheVariants as line
+use Rattle.port_table.specs.declared.fault.PortFault.{PortFault}
+use Rattle.port_table.specs.declared.fault.PortFault.TheVariants as port
+use Rattle.app_scripts.specs.declared.fault.RuleFault.{RuleFault}
+use Rattle.app_scripts.specs.declared.fault.RuleFault.TheVariants as rule
+use Rattle.port_match.specs.declared.fault.LinkKind.{LinkKind}
+use Rattle.port_match.specs.declared.fault.LinkKind.TheVariants.{UnknownApp, UnknownPort, Direction, Kind, Width, Unmapped, PairTwice, ContTwice}
+use Rattle.music_setup.specs.declared.fault.AppKind.{AppKind}
+use Rattle.music_setup.specs.declared.fault.AppKind.TheVariants.{NpText, Binary, TickText, TooManySteps, Ports, Rules, TooManyValues}
+use Rattle.music_setup.specs.declared.fault.SceneFault.{SceneFault}
+use Rattle.music_setup.specs.declared.fault.SceneFault.TheVariants.{StopMissing, StopText, App}
+use Rattle.music_setup.specs.declared.fault.SetupFault.{SetupFault}
+use Rattle.music_setup.specs.declared.fault.SetupFault.TheVariants.{Text, Scene, Link, Memory}
+
+-- LF
+abbrev pub line_end : ℕ
+line_end = 10
+
+-- ---- a text
+
+abbrev pub kind_name : TextKind → List ℕ
+kind_name line.TooLong = codes "TooLong"
+kind_name line.BadByte = codes "BadByte"
+kind_name line.BadLine = codes "BadLine"
+kind_name line.BadName = codes "BadName"
+kind_name line.BadWidth = codes "BadWidth"
+kind_name line.RepeatedSection = codes "RepeatedSection"
+kind_name line.RepeatedSetting = codes "RepeatedSetting"
+kind_name line.TooManySections = codes "TooManySections"
+kind_name line.TooManyLinks = codes "TooManyLinks"
+kind_name line.Unbuilt = codes "Unbuilt"
+
+-- a line of the text, and its fault
+unfoldable pub text_fault : ℕ → TextKind → List ℕ
+text_fault line kind = codes "text fault: line " ++ decimal line ++ codes ": " ++ kind_name kind ++ line_end ∷ []
+
+-- ---- ports and rules
+
+-- which one, by its place from 1, and what is wrong with it
+abbrev pub at_place : List ℕ → ℕ → List ℕ → List ℕ
+at_place what place kind = what ++ decimal place ++ codes ": " ++ kind
+
+abbrev pub at_port : ℕ → List ℕ → List ℕ
+at_port place kind = at_place (codes "port ") place kind
+
+abbrev pub at_rule : ℕ → List ℕ → List ℕ
+at_rule place kind = at_place (codes "rule ") place kind
+
+-- want of memory is no fault of ports or rules; it has this text for the sake of completeness
+unfoldable pub port_text : PortFault → List ℕ
+port_text (port.PortText place) = at_port place (codes "PortText")
+port_text (port.MapRepeated place index) = at_port place (codes "MapRepeated")
+port_text (port.OutputTwice place index) = at_port place (codes "OutputTwice")
+port_text port.Memory = codes "Memory"
+
+unfoldable pub rule_text : RuleFault → List ℕ
+rule_text (rule.RuleText place) = at_rule place (codes "RuleText")
+rule_text (rule.RulePort place) = at_rule place (codes "RulePort")
+rule_text (rule.RuleIndex place) = at_rule place (codes "RuleIndex")
+rule_text (rule.RuleAfter place) = at_rule place (codes "RuleAfter")
+rule_text (rule.RuleRate place) = at_rule place (codes "RuleRate")
+rule_text rule.Memory = codes "Memory"
+
+-- ---- a scene
+
+abbrev pub app_text : AppKind → List ℕ
+app_text NpText = codes "NpText"
+app_text Binary = codes "Binary"
+app_text TickText = codes "TickText"
+app_text TooManySteps = codes "TooManySteps"
+app_text (Ports fault) = port_text fault
+app_text (Rules fault) = rule_text fault
+app_text TooManyValues = codes "TooManyValues"
+
+abbrev pub no_section : List ℕ × SettingList
+no_section = ([], [])
+
+-- the name of application a, which is that of its section
+abbrev pub app_name : Option Config → ℕ → List ℕ
+app_name None a = []
+app_name (Some config) a = (slice_index_or config.sections a no_section).0
+
+unfoldable pub scene_text : Option Config → SceneFault → List ℕ
+scene_text config StopMissing = codes "StopMissing"
+scene_text config StopText = codes "StopText"
+scene_text config (App a kind) = codes "application " ++ app_name config a ++ codes ": " ++ app_text kind
+
+-- ---- a connection
+
+abbrev pub link_kind_name : LinkKind → List ℕ
+link_kind_name UnknownApp = codes "UnknownApp"
+link_kind_name UnknownPort = codes "UnknownPort"
+link_kind_name Direction = codes "Direction"
+link_kind_name Kind = codes "Kind"
+link_kind_name Width = codes "Width"
+link_kind_name Unmapped = codes "Unmapped"
+link_kind_name PairTwice = codes "PairTwice"
+link_kind_name ContTwice = codes "ContTwice"
+
+-- a connection by its place from 1, and its fault
+unfoldable pub link_text : ℕ → LinkKind → List ℕ
+link_text place kind = at_place (codes "link fault: connection ") (suc place) (link_kind_name kind) ++ line_end ∷ []
+
+-- ---- all faults
+
+-- the text of a fault of a configuration, or of a text that is none. Want of memory has none
+unfoldable pub text_of_fault : Option Config → SetupFault → List ℕ
+text_of_fault config (Text line kind) = text_fault line kind
+text_of_fault config (Scene fault) = codes "scene fault: " ++ scene_text config fault ++ line_end ∷ []
+text_of_fault config (Link place what) = link_text place what
+text_of_fault config Memory = []
+
+-- application a stands in the configuration
+abbrev pub HasApp : Option Config → ℕ → Type 0
+HasApp None a = ⊥
+HasApp (Some config) a = a < length config.sections
+
+-- the application that the fault names stands in the configuration
+abbrev pub IsOfConfig : Option Config → SceneFault → Type 0
+IsOfConfig config StopMissing = ⊤
+IsOfConfig config StopText = ⊤
+IsOfConfig config (App a kind) = HasApp config a
+
+-- the fault is no want of memory, and what it names stands in the configuration
+abbrev pub HasText : Option Config → SetupFault → Type 0
+HasText config (Text _ _) = ⊤
+HasText config (Scene fault) = IsOfConfig config fault
+HasText config (Link _ _) = ⊤
+HasText config Memory = ⊥

@@ -1,0 +1,194 @@
+//! The stop and the applications of a configuration.
+ghost use Rattle.std.specs.Prelude.{◌≡◌, ◌<◌, ◌≤◌, true, length, nat_le, All, IfOk, IfErr};
+ghost use Rattle.std.specs.Option.{option_copied};
+ghost use Rattle.config_text.specs.Pairs.{value_of};
+ghost use Rattle.port_table.specs.Ports.{most_ports, most_ranks};
+ghost use Rattle.app_scripts.specs.Rules.{names_differ};
+ghost use Rattle.port_match.specs.Links.{most_apps};
+ghost use Rattle.music_setup.specs.Apps.{HasFewPorts, IsPace, app_in, apps_of, apps_until, pace_in, parts_in, ports_in, rules_in, stop_of};
+ghost use Rattle.music_setup.specs.Faults.{IsAppFault, IsSceneFault};
+ghost use Rattle.music_setup.specs.Limits.{most_steps};
+
+use crate::fault::AppFault;
+use crate::settings::{is_script, np_in, setting, stop_in, tick_in};
+use crate::values::has_few_values;
+use crate::{AppKind, SceneFault, SetupFault};
+use app_scripts::read_rules;
+use config_text::Config;
+use music_base::{AppId, Items, Name, Nanos, TryCopy, Word, steps_of};
+use port_table::read_ports;
+use scene_model::{AppDecl, PortDecl, Rule};
+use std::alloc::Global;
+
+/// How many steps an application makes at most.
+const MOST_STEPS: u64 = 1_000_000;
+
+/// The ports of an application of `np` processes.
+#[tactic(auto, using(crate::proofs::OfApps::ports_fault, crate::proofs::PortNames::ports_differ, crate::proofs::PortNames::ports_few))]
+fn ports_in(alloc: Global, np: u32, text: Option<&Word>) -> Result<Items<PortDecl>, AppFault>
+    requires least { 1 ≤ np }
+    requires most { np ≤ most_ranks }
+    ensures ports { IfOk result (λ ports. ports_in np (option_copied text.entry) ≡ Ok ports) }
+    ensures differ { IfOk result (λ ports. names_differ ports ≡ true) }
+    ensures few { IfOk result (λ ports. length ports ≤ most_ports) }
+    ensures fault { IfErr result (IsAppFault (ports_in np (option_copied text.entry))) }
+{
+    let none = Word::from_vec(Vec::new(alloc));
+    let ports = read_ports(alloc, text.unwrap_or(&none), np)?;
+    Ok(ports)
+}
+
+/// The rules of an application of these ports and this tick.
+#[tactic(auto, using(crate::proofs::OfApps::rules_fault))]
+fn rules_in(
+    alloc: Global,
+    ports: &[PortDecl],
+    tick: Nanos,
+    stop: Nanos,
+    text: Option<&Word>,
+) -> Result<Items<Rule>, AppFault>
+    requires tick { 1 ≤ tick }
+    requires names { names_differ ports.now ≡ true }
+    ensures rules { IfOk result (λ rules. rules_in ports.now tick stop (option_copied text.entry) ≡ Ok rules) }
+    ensures fault { IfErr result (IsAppFault (rules_in ports.now tick stop (option_copied text.entry))) }
+{
+    let none = Word::from_vec(Vec::new(alloc));
+    let rules = read_rules(alloc, text.unwrap_or(&none), ports, tick, stop)?;
+    Ok(rules)
+}
+
+/// Whether an application may make so many steps.
+fn are_few(steps: u64) -> bool
+    ensures { result ≡ nat_le steps most_steps }
+{
+    steps <= MOST_STEPS
+}
+
+/// How an application steps: its number of processes, and its tick.
+#[derive(Clone, Copy)]
+struct Pace {
+    np: u32,
+    tick: Nanos,
+}
+
+/// The pace of the application of the section at this place.
+#[tactic(auto, unfolding(crate::specs::Apps::pace_in))]
+fn read_pace(alloc: Global, config: &Config, stop: Nanos, place: u32) -> Result<Pace, AppFault>
+    requires { place < length config.now.sections }
+    ensures pace { IfOk result (λ pace. pace_in config.now stop place ≡ Ok (pace.np, pace.tick)) }
+    ensures least { IfOk result (λ pace. IsPace pace.np pace.tick) }
+    ensures fault { IfErr result (IsAppFault (pace_in config.now stop place)) }
+{
+    let Some(np) = np_in(setting(alloc, config, place, b"np")?) else {
+        return Err(AppFault::Kind(AppKind::NpText));
+    };
+    if !is_script(setting(alloc, config, place, b"binary")?) {
+        return Err(AppFault::Kind(AppKind::Binary));
+    }
+    let Some(tick) = tick_in(setting(alloc, config, place, b"timestep")?) else {
+        return Err(AppFault::Kind(AppKind::TickText));
+    };
+    if !are_few(steps_of(stop, tick)) {
+        return Err(AppFault::Kind(AppKind::TooManySteps));
+    }
+    Ok(Pace { np, tick })
+}
+
+/// The ports and the rules of the application of the section at this place.
+#[tactic(auto, unfolding(crate::specs::Apps::parts_in), using(crate::proofs::OfApps::fault_goes_on))]
+fn read_parts(
+    alloc: Global,
+    config: &Config,
+    stop: Nanos,
+    place: u32,
+    pace: Pace,
+) -> Result<(Items<PortDecl>, Items<Rule>), AppFault>
+    requires place { place < length config.now.sections }
+    requires pace { IsPace pace.np pace.tick }
+    ensures parts { IfOk result (λ parts. parts_in config.now stop place pace.np pace.tick ≡ Ok (parts.0, parts.1)) }
+    ensures few { IfOk result (λ parts. length parts.0 ≤ most_ports) }
+    ensures fault { IfErr result (IsAppFault (parts_in config.now stop place pace.np pace.tick)) }
+{
+    let ports = ports_in(alloc, pace.np, setting(alloc, config, place, b"ports")?)?;
+    let args = setting(alloc, config, place, b"args")?;
+    let rules = rules_in(alloc, ports.as_slice(), pace.tick, stop, args)?;
+    if !has_few_values(steps_of(stop, pace.tick), ports.as_slice()) {
+        return Err(AppFault::Kind(AppKind::TooManyValues));
+    }
+    Ok((ports, rules))
+}
+
+/// The application of the section at this place, whose name this is.
+#[tactic(auto, unfolding(crate::specs::Apps::app_in), using(crate::proofs::OfApps::fault_goes_on))]
+fn read_app(
+    alloc: Global,
+    config: &Config,
+    stop: Nanos,
+    place: u32,
+    name: &Name,
+) -> Result<AppDecl, AppFault>
+    requires { place < length config.now.sections }
+    ensures app { IfOk result (λ app. app_in config.now stop place name.now ≡ Ok app) }
+    ensures few { IfOk result (λ app. HasFewPorts app) }
+    ensures fault { IfErr result (IsAppFault (app_in config.now stop place name.now)) }
+{
+    let pace = read_pace(alloc, config, stop, place)?;
+    let Pace { np, tick } = pace;
+    let (ports, rules) = read_parts(alloc, config, stop, place, pace)?;
+    let name = name.copy(alloc)?;
+    Ok(AppDecl {
+        name,
+        np,
+        tick,
+        ports,
+        rules,
+    })
+}
+
+/// The applications of the sections, one for each, in the order of the text.
+#[tactic(auto, using(crate::proofs::OfApps::few_sections))]
+fn apps_until(alloc: Global, config: &Config, stop: Nanos) -> Result<Items<AppDecl>, SetupFault>
+    ensures apps { IfOk result (λ apps. apps_until config.now stop ≡ Ok apps) }
+    ensures few { IfOk result (λ apps. length apps ≤ most_apps) }
+    ensures few_ports { IfOk result (All HasFewPorts) }
+    ensures fault { IfErr result (IsSceneFault (apps_until config.now stop)) }
+{
+    let mut apps = Items::new(alloc);
+    for place in 0..config.sections.len() as u32 {
+        let (name, _) = config.sections.pair_at(place as usize);
+        match read_app(alloc, config, stop, place, name) {
+            Ok(app) => apps.push(app)?,
+            Err(AppFault::Kind(kind)) => {
+                let app = AppId(place);
+                return Err(SetupFault::Scene(SceneFault::App { app, kind }));
+            }
+            Err(AppFault::NoMemory) => return Err(SetupFault::Memory),
+        }
+    }
+    Ok(apps)
+}
+
+/// The stop, which stands among the defaults.
+fn stop_of(alloc: Global, config: &Config) -> Result<Nanos, SetupFault>
+    ensures stop { IfOk result (λ stop. stop_of config.now ≡ Ok stop) }
+    ensures fault { IfErr result (IsSceneFault (stop_of config.now)) }
+{
+    let name = Name::from_slice(alloc, b"stoptime")?;
+    match stop_in(config.defaults.get(&name)) {
+        Ok(stop) => Ok(stop),
+        Err(fault) => Err(SetupFault::Scene(fault)),
+    }
+}
+
+/// The stop of a configuration, in ns, and its applications in the order of the text, each with its ports and rules.
+#[tactic(auto, unfolding(crate::specs::Apps::apps_of))]
+pub fn read_apps(alloc: Global, config: &Config) -> Result<(Nanos, Items<AppDecl>), SetupFault>
+    ensures apps { IfOk result (λ read. apps_of config.now ≡ Ok (read.0, read.1)) }
+    ensures few { IfOk result (λ read. length read.1 ≤ most_apps) }
+    ensures few_ports { IfOk result (λ read. All HasFewPorts read.1) }
+    ensures fault { IfErr result (IsSceneFault (apps_of config.now)) }
+{
+    let stop = stop_of(alloc, config)?;
+    let apps = apps_until(alloc, config, stop)?;
+    Ok((stop, apps))
+}
