@@ -1,17 +1,13 @@
-//! Tests that cross crates: what no clause says, and each call that asks for memory once where there is enough of it.
+//! Tests of the two top calls, and of the calls below them that the command `run` makes.
+//!
+//! A helper answers a plain value from one call, so that each function has few values to drop.
 #![tactic(auto)]
 
 #[cfg(test)]
 mod calls;
 #[cfg(test)]
-mod config_texts;
-#[cfg(test)]
-mod declarations;
-#[cfg(test)]
 mod refused_memory;
 #[cfg(test)]
 mod runs;
-#[cfg(test)]
-mod standard_ends;
 #[cfg(test)]
 mod texts;

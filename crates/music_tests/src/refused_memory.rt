@@ -1,30 +1,24 @@
 //! A run to which memory may be refused: it is made to fail at each request in turn, apart from the ordinary run of the
 //! tests. Here memory is found.
-use crate::texts::{SPIKES, SPIKES_LOG, words_of};
-use music_base::{MemorySink, MemorySource};
+use crate::runs::{RUN, ends_of};
+use crate::texts::SPIKES_LOG;
 use music_cli::music_alone;
-use std::test::Fail;
+
+fn is_log_or_prefix(status: u8, taken: &[u8]) -> bool {
+    if status == 0 {
+        taken == SPIKES_LOG
+    } else {
+        status == 8 && SPIKES_LOG.starts_with(taken)
+    }
+}
 
 #[test]
-fn a_log_or_a_prefix_of_it(rt: HostRuntime) -> Result<(), Fail> {
+fn a_log_or_a_prefix_of_it(rt: HostRuntime) {
     let alloc = rt.alloc();
-    // What the run needs to begin; where memory is refused to it, there is no case.
-    let Ok(words) = words_of(alloc, &["run"]) else {
-        return Ok(());
-    };
-    let Ok(text) = SPIKES.to_vec(alloc) else {
-        return Ok(());
-    };
-    let mut source = MemorySource::make(text, 10, Vec::new(alloc));
-    let Ok(mut sink) = MemorySink::make(alloc, 40, 1000) else {
-        return Ok(());
-    };
-    let status = music_alone(alloc, &words, &mut source, &mut sink);
-    if status == 0 {
-        assert_eq!(rt; sink.taken(), SPIKES_LOG);
-    } else {
-        assert_eq!(rt; status, 8);
-        assert!(rt; SPIKES_LOG.starts_with(sink.taken()));
+    // Where memory is refused to what the run needs to begin, there is no case.
+    if let Ok(mut ends) = ends_of(alloc, &RUN) {
+        let status = music_alone(alloc, &ends.words, &mut ends.source, &mut ends.sink);
+        let taken = ends.sink.taken();
+        assert!(rt; is_log_or_prefix(status, taken), "status {status}");
     }
-    Ok(())
 }

@@ -1,21 +1,24 @@
 //! Words and bytes, and the status and the text that they get, by both top calls.
-use crate::texts::{HEADER, SLOW, SLOW_LOG, SPIKES, SPIKES_LOG, UNHEARD, USAGE, words_of};
-use music_base::{FreeGate, MemorySink, MemorySource};
+use crate::texts::{HEADER, SLOW, SLOW_LOG, SPIKES, SPIKES_LOG, UNHEARD, USAGE, blanks, words_of};
+use music_base::{FreeGate, MemorySink, MemorySource, NoMemory};
 use music_cli::{music, music_alone};
 use std::alloc::Global;
-use std::test::Fail;
+use std::process::Abort;
+use std::sync::Wait;
+use std::thread::Threads;
 
 #[derive(Clone, Copy)]
-struct Case<'a> {
+pub struct Case<'a> {
     words: &'a [&'a str],
     text: &'a [u8],
     fails: &'a [u64],
-    room: u64,
+    room: u16,
     status: u8,
     taken: &'a [u8],
 }
 
-const RUN: Case<'static> = Case {
+/// The run of the spikes.
+pub const RUN: Case<'static> = Case {
     words: &["run"],
     text: SPIKES,
     fails: &[],
@@ -31,6 +34,12 @@ const REFUSED: Case<'static> = Case {
 };
 
 const FAULTY: Case<'static> = Case { status: 3, ..RUN };
+
+/// A text that is longer than any that is read.
+const TOO_LONG: Case<'static> = Case {
+    taken: b"text fault: line 0: TooLong\n",
+    ..FAULTY
+};
 
 const CASES: &[Case<'static>] = &[
     RUN,
@@ -107,57 +116,75 @@ const CASES: &[Case<'static>] = &[
     },
 ];
 
-// The words, the source and the sink of a case.
-fn ends_of(
-    alloc: Global,
-    case: &Case<'_>,
-) -> Result<(Vec<String>, MemorySource, MemorySink), Fail> {
-    if case.room > 1000 {
-        return Err(Fail::from("a smaller room"));
-    }
+/// The words, the source and the sink of a case.
+#[derive(Drop)]
+pub struct Ends {
+    pub words: Vec<String>,
+    pub source: MemorySource,
+    pub sink: MemorySink,
+}
+
+/// What a run of the case is made of.
+pub fn ends_of(alloc: Global, case: &Case<'_>) -> Result<Ends, NoMemory> {
     let words = words_of(alloc, case.words)?;
     let (text, fails) = (case.text.to_vec(alloc)?, case.fails.to_vec(alloc)?);
     let source = MemorySource::make(text, 10, fails);
-    let sink = MemorySink::make(alloc, 40, case.room).map_err(|_| "no memory")?;
-    Ok((words, source, sink))
+    let sink = MemorySink::make(alloc, 40, u64::from(case.room))?;
+    Ok(Ends {
+        words,
+        source,
+        sink,
+    })
+}
+
+fn is_answered(rt: &impl Abort, case: &Case<'_>, status: u8, taken: &[u8]) {
+    let is_right = status == case.status && taken == case.taken;
+    assert!(rt; is_right, "status {status}, {taken:?}");
+}
+
+fn is_run_alone(rt: &impl Abort, alloc: Global, case: &Case<'_>) -> Result<(), NoMemory> {
+    let mut ends = ends_of(alloc, case)?;
+    let status = music_alone(alloc, &ends.words, &mut ends.source, &mut ends.sink);
+    is_answered(rt, case, status, ends.sink.taken());
+    Ok(())
+}
+
+fn is_run<R: Abort + Threads + Wait + Sync>(
+    rt: &R,
+    alloc: Global,
+    case: &Case<'_>,
+) -> Result<(), NoMemory> {
+    let mut ends = ends_of(alloc, case)?;
+    let (source, sink) = (&mut ends.source, &mut ends.sink);
+    let status = music(rt, alloc, &ends.words, source, sink, &FreeGate);
+    is_answered(rt, case, status, ends.sink.taken());
+    Ok(())
+}
+
+fn blanks_are_run(rt: &impl Abort, alloc: Global, count: usize) -> Result<(), NoMemory> {
+    let text = blanks(alloc, count)?;
+    let case = Case {
+        text: &text,
+        ..TOO_LONG
+    };
+    is_run_alone(rt, alloc, &case)
 }
 
 #[test]
-fn one_worker_gives_the_answers(rt: HostRuntime) -> Result<(), Fail> {
-    let alloc = rt.alloc();
+fn one_worker_gives_the_answers(rt: HostRuntime) {
     for case in CASES {
-        let (words, mut source, mut sink) = ends_of(alloc, case)?;
-        assert_eq!(rt;
-            music_alone(alloc, &words, &mut source, &mut sink),
-            case.status
-        );
-        assert_eq!(rt; sink.taken(), case.taken);
+        assert!(rt; is_run_alone(&rt, rt.alloc(), case).is_ok());
     }
-    Ok(())
 }
 
 #[test]
-fn the_program_gives_the_answers(rt: HostRuntime) -> Result<(), Fail> {
-    let alloc = rt.alloc();
+fn the_program_gives_the_answers(rt: HostRuntime) {
     for case in CASES {
-        let (words, mut source, mut sink) = ends_of(alloc, case)?;
-        assert_eq!(rt;
-            music(&rt, alloc, &words, &mut source, &mut sink, &FreeGate),
-            case.status
-        );
-        assert_eq!(rt; sink.taken(), case.taken);
+        assert!(rt; is_run(&rt, rt.alloc(), case).is_ok());
     }
-    Ok(())
 }
 
 #[test]
-fn a_text_that_is_too_long_is_refused(rt: HostRuntime) -> Result<(), Fail> {
-    let alloc = rt.alloc();
-    let words = words_of(alloc, &["run"])?;
-    let blanks = vec![in alloc; b' '; 1_048_577]?;
-    let mut source = MemorySource::make(blanks, 65_536, Vec::new(alloc));
-    let mut sink = MemorySink::make(alloc, 40, 1000).map_err(|_| "no memory")?;
-    assert_eq!(rt; music_alone(alloc, &words, &mut source, &mut sink), 3);
-    assert_eq!(rt; sink.taken(), b"text fault: line 0: TooLong\n".as_slice());
-    Ok(())
+fn a_text_that_is_too_long_is_refused(rt: HostRuntime) {
+    assert!(rt; blanks_are_run(&rt, rt.alloc(), 1_048_577).is_ok());
 }

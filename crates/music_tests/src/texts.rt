@@ -48,6 +48,42 @@ ports=in event in 0+10
 gen.spikes -> sink.in [10]
 ";
 
+/// Five applications and six connections, of events, values and messages.
+pub const TWO_NETWORKS: &[u8] = b"stoptime=0.004
+binary=script
+[clk]
+np=1
+timestep=0.001
+ports=out event tick 0+4; out message note
+args=emit tick 0 every 0.001 from 0; say note go every 0.002 from 0.0005
+[left]
+np=2
+timestep=0.001
+ports=in event in split:0+4 latency 0.001; out event out split:0+4
+args=pass in to out shift 1 after 0.0002
+[right]
+np=1
+timestep=0.002
+ports=in event in 0+4 latency 0.002; out event out 0+4
+args=pass in to out shift 1 after 0
+[wave]
+np=1
+timestep=0.002
+ports=out cont level 0+2; in message cmd
+args=ramp level 0 from 0 by 1; set level 1 0.5
+[watch]
+np=1
+timestep=0.001
+ports=in cont level 0+2 delay 0.002; in event seen 0+4; out event alarm 0+1
+args=when level 0 over 0.25 emit alarm 0
+clk.tick -> left.in [4]
+left.out -> right.in [4]
+right.out -> left.in [4]
+right.out -> watch.seen [4]
+clk.note -> wave.cmd
+wave.level -> watch.level [2]
+";
+
 pub const HEADER: &[u8] = b"clock,app,port,kind,rank,local,global,time,value\n";
 
 pub const SPIKES_LOG: &[u8] = b"clock,app,port,kind,rank,local,global,time,value
@@ -74,4 +110,9 @@ pub fn words_of(alloc: Global, words: &[&str]) -> Result<Vec<String>, AllocError
         list.push(String::from_str(alloc, word)?)?;
     }
     Ok(list)
+}
+
+/// A text of so many blanks.
+pub fn blanks(alloc: Global, count: usize) -> Result<Vec<u8>, AllocError> {
+    vec![in alloc; b' '; count]
 }

@@ -1,0 +1,19 @@
+//! Tests of the crates below the commands: calls that ask for memory get it where there is enough, and what no clause says.
+//!
+//! A helper answers a plain value from one call, so that each function has few values to drop.
+#![tactic(auto)]
+
+#[cfg(test)]
+mod config_texts;
+#[cfg(test)]
+mod copies;
+#[cfg(test)]
+mod maps;
+#[cfg(test)]
+mod standard_ends;
+#[cfg(test)]
+mod texts;
+#[cfg(test)]
+mod times;
+#[cfg(test)]
+mod words;
