@@ -1,26 +1,31 @@
 -- What each way to end says of the status and of the text.
-use Rattle.std.proofs.Common.{◌≡◌, ℕ, ◌<◌, ◌≤◌, Bool, true, false, List, [], ◌++◌, length, take, Option, Some, None, Ok, Err, refl, sym, ap, subst, ◌∙◌, inl, inr, arith, append-nil}
-use Rattle.std.specs.Prelude.{Result, IsTrue, IsOk, is_some}
+use Rattle.std.proofs.Common.{◌≡◌, ℕ, ◌<◌, ◌≤◌, lit<, Bool, true, false, List, [], ◌++◌, length, take, Option, Some, None, Ok, Err, refl, sym, ap, subst, ◌∙◌, inl, inr, arith, append-nil}
+use Rattle.std.specs.Prelude.{Result, IsTrue, IsOk, is_some, Contains}
 use Rattle.std.proofs.lemmas.Bool.{cases_lt}
 use Rattle.std.proofs.lemmas.List.{take_all}
 use Rattle.std.proofs.Math.Seq.{take-append_seam}
 use Rattle.music_base.specs.Outside.{Gave, TookPrefix, IsAtEnd}
 use Rattle.music_base.proofs.Transfers.{TookPrefix-nothing}
 use Rattle.config_text.specs.FirstForm.{first_form}
-use Rattle.config_text.specs.Text.{Spells, HasFault}
+use Rattle.config_text.specs.Text.{Spells}
 use Rattle.config_text.specs.declared.config.Config.{Config}
 use Rattle.config_text.proofs.OneReading.{some_reading, apart}
 use Rattle.config_text.specs.declared.form.FirstForm.{FirstForm}
 use Rattle.config_text.specs.declared.text_kind.TextKind.{TextKind}
 use Rattle.scene_model.specs.Logs.{log_of}
-use Rattle.plain_run.specs.Plain.{scene_of}
+use Rattle.scene_model.specs.declared.scene.Scene.{Scene}
+use Rattle.music_setup.specs.Scenes.{scene_of}
+use Rattle.music_setup.specs.Texts.{text_of_fault}
+use Rattle.music_setup.specs.declared.fault.SetupFault.{SetupFault}
+use Rattle.music_setup.specs.declared.fault.SetupFault.TheVariants as setup
+use Rattle.plain_run.specs.Plain as plain
 use Rattle.music_cli.specs.Words.{command_of, are_accepted}
-use Rattle.music_cli.specs.Answers.{AnswersForm, AnswersRun, AnswersCommand, Answers, CanRun, number_of, usage_text, read_fault_text, text_fault}
-use Rattle.music_cli.specs.Clauses.{Ends, ends, most_read, read_part, HasAnswer, HasPrefix, IsComplete, WasRead, IsGiven, IsRead, Ended, refused, unread, unfound, answered}
+use Rattle.music_cli.specs.Answers.{AnswersScene, AnswersForm, AnswersConfig, AnswersText, AnswersCommand, Answers, CanDo, CanDoWith, number_of, status_of, outcomes_of, usage_text, read_fault_text, ok_text}
+use Rattle.music_cli.specs.Clauses.{Ends, ends, most_read, read_part, IsStatus, HasAnswer, HasPrefix, IsComplete, WasRead, IsSaid, IsGiven, IsRead, Ended, refused, unread, unfound, answered}
 use Rattle.music_cli.specs.declared.command_line.Command.{Command}
-use Rattle.music_cli.specs.declared.command_line.Command.TheVariants.{Run}
+use Rattle.music_cli.specs.declared.command_line.Command.TheVariants.{Check, Run}
 use Rattle.music_cli.specs.declared.status.Status.{Status}
-use Rattle.music_cli.specs.declared.status.Status.TheVariants.{Done, Usage, TextFault, NoMemory}
+use Rattle.music_cli.specs.declared.status.Status.TheVariants.{Done, Usage, TextFault, ReadFault, WriteFault, NoMemory}
 
 -- ---- what was read
 
@@ -48,81 +53,160 @@ read_is source bytes all read is = read_of most_read source.before source.after 
 -- ---- answers
 
 form_answer : (found : Result FirstForm (ℕ × TextKind)) → (status : Status) × (text : List ℕ) × AnswersForm found status text
-form_answer (Ok form) = (Done, log_of (scene_of form), (refl, refl))
-form_answer (Err fault) = (TextFault, text_fault fault.0 fault.1, (refl, refl))
+form_answer (Ok form) = (Done, log_of (plain.scene_of form), (refl, refl))
+form_answer (Err fault) = (TextFault, text_of_fault None (setup.Text fault.0 fault.1), (refl, refl))
 
-right_answer : (bytes : List ℕ) (config : Config) → Spells config bytes → (status : Status) × (text : List ℕ) × AnswersRun bytes status text
-right_answer bytes config spells =
-    let answer : (status : Status) × (text : List ℕ) × AnswersForm (first_form bytes) status text = form_answer (first_form bytes) in
+scene_answer : (config : Config) (found : Result Scene SetupFault) → (status : Status) × (text : List ℕ) × AnswersScene config found status text
+scene_answer config (Ok scene) = (Done, ok_text scene, (refl, refl))
+scene_answer config (Err fault) = (status_of fault, text_of_fault (Some config) fault, (refl, refl))
+
+config_answer : (command : Command) (config : Config) (bytes : List ℕ) → (status : Status) × (text : List ℕ) × AnswersConfig command config bytes status text
+config_answer Check config bytes = scene_answer config (scene_of config)
+config_answer Run config bytes = form_answer (first_form bytes)
+
+right_answer : (command : Command) (bytes : List ℕ) (config : Config) → Spells config bytes → (status : Status) × (text : List ℕ) × AnswersText command bytes status text
+right_answer command bytes config spells =
+    let answer = config_answer command config bytes in
     (answer.0, answer.1, inr (config, spells, answer.2))
 
-run_answer : (bytes : List ℕ) → (status : Status) × (text : List ℕ) × AnswersRun bytes status text
-run_answer bytes = elim (some_reading bytes) [
-  | inl right ↦ right_answer bytes right.0 right.1
-  | inr faulty ↦ (TextFault, text_fault faulty.0 faulty.1, inl (faulty.0, faulty.1, faulty.2, refl, refl))
+text_answer : (command : Command) (bytes : List ℕ) → (status : Status) × (text : List ℕ) × AnswersText command bytes status text
+text_answer command bytes = elim (some_reading bytes) [
+  | inl right ↦ right_answer command bytes right.0 right.1
+  | inr faulty ↦ (TextFault, text_of_fault None (setup.Text faulty.0 faulty.1), inl (faulty.0, faulty.1, faulty.2, (refl, refl)))
 ]
 
 -- each words and bytes have an answer
 some_answer : (command : Option Command) (bytes : List ℕ) → (status : Status) × (text : List ℕ) × AnswersCommand command bytes status text
 some_answer None bytes = (Usage, usage_text, (refl, refl))
-some_answer (Some Run) bytes = run_answer bytes
+some_answer (Some command) bytes = text_answer command bytes
 
 usage_answer : (command : Option Command) (bytes : List ℕ) → is_some command ≡ false → AnswersCommand command bytes Usage usage_text
 usage_answer None bytes none = (refl, refl)
 usage_answer (Some command) bytes none = absurd cc
 
+-- ---- what can be done is done
+
 form_done : (found : Result FirstForm (ℕ × TextKind)) (status : Status) (text : List ℕ) → IsOk found → AnswersForm found status text → status ≡ Done
 form_done (Ok form) status text ok answers = answers.0
 form_done (Err fault) status text ok answers = absurd cc
 
-run_done : (bytes : List ℕ) (status : Status) (text : List ℕ) → CanRun bytes → AnswersRun bytes status text → status ≡ Done
-run_done bytes status text can answers = elim answers [
-  | inl faulty ↦ absurd (apart bytes can.0.0 faulty.0 faulty.1 can.0.1 faulty.2)
-  | inr right ↦ form_done (first_form bytes) status text can.1 right.2
+scene_done : (config : Config) (found : Result Scene SetupFault) (status : Status) (text : List ℕ) → IsOk found → AnswersScene config found status text → status ≡ Done
+scene_done config (Ok scene) status text ok answers = answers.0
+scene_done config (Err fault) status text ok answers = absurd cc
+
+config_done : (command : Command) (config : Config) (bytes : List ℕ) (status : Status) (text : List ℕ) → CanDoWith command config bytes → AnswersConfig command config bytes status text → status ≡ Done
+config_done Check config bytes status text can answers = scene_done config (scene_of config) status text can answers
+config_done Run config bytes status text can answers = form_done (first_form bytes) status text can answers
+
+-- a text spells one configuration
+text_done : (command : Command) (bytes : List ℕ) (status : Status) (text : List ℕ) → CanDo command bytes → AnswersText command bytes status text → status ≡ Done
+text_done command bytes status text can answers = elim answers [
+  | inl faulty ↦ absurd (apart bytes can.0 faulty.0 faulty.1 can.1 faulty.2)
+  | inr right ↦
+      let same : can.0 ≡ right.0 = can.1.is ∙ sym right.1.is in
+      config_done command right.0 bytes status text (subst (λ (config : Config). CanDoWith command config bytes) same can.2) right.2
 ]
 
-command_done : (command : Option Command) (bytes : List ℕ) (status : Status) (text : List ℕ) → is_some command ≡ true → CanRun bytes → AnswersCommand command bytes status text → status ≡ Done
-command_done None bytes status text some can answers = absurd cc
-command_done (Some Run) bytes status text some can answers = run_done bytes status text can answers
+-- ---- which outcomes can come
 
--- ---- giving an answer
+form_outcome : (found : Result FirstForm (ℕ × TextKind)) (status : Status) (text : List ℕ) → AnswersForm found status text → Contains (outcomes_of (Some Run)) status
+form_outcome (Ok form) status text answers = (0, lit< tt, sym answers.0)
+form_outcome (Err fault) status text answers = (1, lit< tt, sym answers.0)
 
--- what was given as one answer was given as another one
-pub given_as : (P Q : Status → List ℕ → Type 0) (sink : Ends) (result : Status) → ((status : Status) (text : List ℕ) → P status text → Q status text) → IsGiven P sink result → IsGiven Q sink result
-given_as P Q sink result implies given =
-    record { status = given.status; text = given.text; found_so = implies given.status given.text given.found_so; cases = given.cases; prefix = given.prefix }
+fault_outcome : (fault : SetupFault) (status : Status) → status ≡ status_of fault → Contains (outcomes_of (Some Check)) status
+fault_outcome (setup.Text line kind) status is = (1, lit< tt, sym is)
+fault_outcome (setup.Scene fault) status is = (2, lit< tt, sym is)
+fault_outcome (setup.Link place what) status is = (2, lit< tt, sym is)
+fault_outcome setup.Memory status is = (5, lit< tt, sym is)
 
--- what the form of a right text was given, the text was given
-pub given_form : (bytes : List ℕ) (config : Config) (sink : Ends) (result : Status) → Spells config bytes → IsGiven (AnswersForm (first_form bytes)) sink result → IsGiven (AnswersRun bytes) sink result
-given_form bytes config sink result spells given = given_as (AnswersForm (first_form bytes)) (AnswersRun bytes) sink result (λ status text answers. inr (config, spells, answers)) given
+scene_outcome : (config : Config) (found : Result Scene SetupFault) (status : Status) (text : List ℕ) → AnswersScene config found status text → Contains (outcomes_of (Some Check)) status
+scene_outcome config (Ok scene) status text answers = (0, lit< tt, sym answers.0)
+scene_outcome config (Err fault) status text answers = fault_outcome fault status answers.0
 
--- what its first fault was given, a faulty text was given
-pub given_fault : (bytes : List ℕ) (line : ℕ) (kind : TextKind) (sink : Ends) (result : Status) → HasFault bytes line kind → IsGiven (AnswersForm (Err (line, kind))) sink result → IsGiven (AnswersRun bytes) sink result
-given_fault bytes line kind sink result fault given =
-    given_as (AnswersForm (Err (line, kind))) (AnswersRun bytes) sink result (λ status text answers. inl (line, kind, fault, answers.0, answers.1)) given
+config_outcome : (command : Command) (config : Config) (bytes : List ℕ) (status : Status) (text : List ℕ) → AnswersConfig command config bytes status text → Contains (outcomes_of (Some command)) status
+config_outcome Check config bytes status text answers = scene_outcome config (scene_of config) status text answers
+config_outcome Run config bytes status text answers = form_outcome (first_form bytes) status text answers
 
+text_fault_outcome : (command : Command) (status : Status) → status ≡ TextFault → Contains (outcomes_of (Some command)) status
+text_fault_outcome Check status is = (1, lit< tt, sym is)
+text_fault_outcome Run status is = (1, lit< tt, sym is)
+
+answer_outcome : (command : Option Command) (bytes : List ℕ) (status : Status) (text : List ℕ) → AnswersCommand command bytes status text → Contains (outcomes_of command) status
+answer_outcome None bytes status text answers = (0, lit< tt, sym answers.0)
+answer_outcome (Some command) bytes status text answers = elim answers [
+  | inl faulty ↦ text_fault_outcome command status faulty.3.0
+  | inr right ↦ config_outcome command right.0 bytes status text right.2
+]
+
+write_fault_outcome : (command : Option Command) → Contains (outcomes_of command) WriteFault
+write_fault_outcome None = (1, lit< tt, refl)
+write_fault_outcome (Some Check) = (4, lit< tt, refl)
+write_fault_outcome (Some Run) = (3, lit< tt, refl)
+
+read_fault_outcome : (command : Option Command) → is_some command ≡ true → Contains (outcomes_of command) ReadFault
+read_fault_outcome None some = absurd cc
+read_fault_outcome (Some Check) some = (3, lit< tt, refl)
+read_fault_outcome (Some Run) some = (2, lit< tt, refl)
+
+memory_outcome : (command : Option Command) → is_some command ≡ true → Contains (outcomes_of command) NoMemory
+memory_outcome None some = absurd cc
+memory_outcome (Some Check) some = (5, lit< tt, refl)
+memory_outcome (Some Run) some = (4, lit< tt, refl)
+
+-- ---- an answer that was given
+
+-- where memory gave out before anything was written
 given_none : (P : Status → List ℕ → Type 0) (before : Option (List ℕ)) (faults : ℕ) → ((status : Status) × (text : List ℕ) × P status text) → IsGiven P (ends before before faults faults) NoMemory
 given_none P before faults answer = record { status = answer.0; text = answer.1; found_so = answer.2; cases = inr (inr refl); prefix = TookPrefix-nothing before answer.1 }
 
--- where memory gave out before anything was written
 pub form_unfound : (found : Result FirstForm (ℕ × TextKind)) (before : Option (List ℕ)) (faults : ℕ) → IsGiven (AnswersForm found) (ends before before faults faults) NoMemory
 form_unfound found before faults = given_none (AnswersForm found) before faults (form_answer found)
 
-pub run_unfound : (bytes : List ℕ) (before : Option (List ℕ)) (faults : ℕ) → IsGiven (AnswersRun bytes) (ends before before faults faults) NoMemory
-run_unfound bytes before faults = given_none (AnswersRun bytes) before faults (run_answer bytes)
+pub scene_unfound : (config : Config) (found : Result Scene SetupFault) (before : Option (List ℕ)) (faults : ℕ) → IsGiven (AnswersScene config found) (ends before before faults faults) NoMemory
+scene_unfound config found before faults = given_none (AnswersScene config found) before faults (scene_answer config found)
+
+pub text_unfound : (command : Command) (bytes : List ℕ) (before : Option (List ℕ)) (faults : ℕ) → IsGiven (AnswersText command bytes) (ends before before faults faults) NoMemory
+text_unfound command bytes before faults = given_none (AnswersText command bytes) before faults (text_answer command bytes)
 
 -- what a command gave to what was read, it gave to the words
 pub given_to_words : (command : Command) (words : List (List ℕ)) (bytes read : List ℕ) (sink : Ends) (result : Status) → read ≡ bytes → command_of words ≡ Some command
-    → IsGiven (AnswersRun read) sink result → IsGiven (Answers words bytes) sink result
-given_to_words Run words bytes read sink result same is given =
+    → IsGiven (AnswersText command read) sink result → IsGiven (Answers words bytes) sink result
+given_to_words command words bytes read sink result same is given =
     let Given : Option Command → Type 0 = λ command. IsGiven (AnswersCommand command bytes) sink result in
     subst Given (sym is) (rw same at given)
 
 -- ---- the clauses
 
+outcome_of_said : (words : List (List ℕ)) (said : Status) (text : List ℕ) (sink : Ends) (status : Status) → Contains (outcomes_of (command_of words)) said → IsSaid said text sink status
+    → Contains (outcomes_of (command_of words)) status
+outcome_of_said words said text sink status can is = elim is.cases [
+  | inl done ↦ subst (Contains (outcomes_of (command_of words))) (sym done.0) can
+  | inr fault ↦ subst (Contains (outcomes_of (command_of words))) (sym fault.0) (write_fault_outcome (command_of words))
+]
+
+usage_outcome : (command : Option Command) → is_some command ≡ false → Contains (outcomes_of command) Usage
+usage_outcome None none = (0, lit< tt, refl)
+usage_outcome (Some command) none = absurd cc
+
+outcome : (words : List (List ℕ)) (source sink : Ends) (status : Status) → Ended words source sink status → Contains (outcomes_of (command_of words)) status
+outcome words source sink status (refused not_so untouched said) = outcome_of_said words Usage usage_text sink status (usage_outcome (command_of words) not_so) said
+outcome words source sink status (unread accepted failed said) = outcome_of_said words ReadFault read_fault_text sink status (read_fault_outcome (command_of words) accepted) said
+outcome words source sink status (unfound accepted memory same) = subst (Contains (outcomes_of (command_of words))) (sym memory) (memory_outcome (command_of words) accepted)
+outcome words source sink status (answered accepted bytes read given) = elim given.cases [
+  | inl done ↦ subst (Contains (outcomes_of (command_of words))) (sym done.0) (answer_outcome (command_of words) bytes given.status given.text given.found_so)
+  | inr gave_out ↦ elim gave_out [
+    | inl fault ↦ subst (Contains (outcomes_of (command_of words))) (sym fault.0) (write_fault_outcome (command_of words))
+    | inr memory ↦ subst (Contains (outcomes_of (command_of words))) (sym memory) (memory_outcome (command_of words) accepted)
+  ]
+]
+
 accepted_not_refused : (b : Bool) → IsTrue b → b ≡ false → ⊥
 accepted_not_refused true accepted not_so = absurd cc
 accepted_not_refused false accepted not_so = absurd cc
+
+-- the result is one of those that can come to the words
+pub is_status : (words : List (List ℕ)) (source sink : Ends) (status : Status) → Ended words source sink status → IsStatus words (number_of status)
+is_status words source sink status ended = (status, outcome words source sink status ended, refl)
 
 pub has_answer : (words : List (List ℕ)) (source sink : Ends) (status : Status) → Ended words source sink status → HasAnswer words source sink (number_of status)
 has_answer words source sink status (refused not_so untouched said) all is small = elim said.cases [
@@ -157,12 +241,16 @@ has_prefix words source sink status (answered accepted bytes read given) all is 
     (given.text, inl (given.status, subst (λ (b : List ℕ). Answers words b given.status given.text) e given.found_so), given.prefix)
 
 pub is_complete : (words : List (List ℕ)) (source sink : Ends) (status : Status) → Ended words source sink status → IsComplete words source sink (number_of status)
-is_complete words source sink status (refused not_so untouched said) all is accepted can calm_source calm_sink = absurd (accepted_not_refused (are_accepted words) accepted not_so)
-is_complete words source sink status (unread yes_accepted failed said) all is accepted can calm_source calm_sink = absurd (calm_source failed)
-is_complete words source sink status (unfound yes_accepted memory same) all is accepted can calm_source calm_sink = inr (ap number_of memory)
-is_complete words source sink status (answered yes_accepted bytes read given) all is accepted can calm_source calm_sink =
+is_complete words source sink status (refused not_so untouched said) command all named is can calm_source calm_sink =
+    let yes_accepted : are_accepted words ≡ true = ap is_some named in
+    let both : true ≡ false = sym yes_accepted ∙ not_so in
+    absurd cc
+is_complete words source sink status (unread yes_accepted failed said) command all named is can calm_source calm_sink = absurd (calm_source failed)
+is_complete words source sink status (unfound yes_accepted memory same) command all named is can calm_source calm_sink = inr (ap number_of memory)
+is_complete words source sink status (answered yes_accepted bytes read given) command all named is can calm_source calm_sink =
     let e : bytes ≡ read_part all = read_is source bytes all read is in
-    let done_so : given.status ≡ Done = command_done (command_of words) bytes given.status given.text yes_accepted (subst CanRun (sym e) can) given.found_so in
+    let answers : AnswersCommand (Some command) bytes given.status given.text = rw named at given.found_so in
+    let done_so : given.status ≡ Done = text_done command bytes given.status given.text (subst (CanDo command) (sym e) can) answers in
     elim given.cases [
       | inl done ↦ inl (ap number_of (done.0 ∙ done_so))
       | inr gave_out ↦ elim gave_out [ inl fault ↦ absurd (calm_sink fault.1) | inr memory ↦ inr (ap number_of memory) ]

@@ -1,32 +1,50 @@
 -- The status and the text that words and bytes get.
-use Rattle.std.specs.Prelude.{◌≡◌, ◌⊎◌, ℕ, List, [], ◌∷◌, ◌++◌, Option, Some, None, Result, Ok, Err, IsOk, codes}
+use Rattle.std.specs.Prelude.{◌≡◌, ◌⊎◌, ℕ, List, [], ◌∷◌, ◌++◌, length, Option, Some, None, Result, Ok, Err, IsOk, codes}
 use Rattle.std.specs.Fmt.{decimal}
 use Rattle.config_text.specs.FirstForm.{first_form}
 use Rattle.config_text.specs.Text.{Spells, HasFault}
 use Rattle.config_text.specs.declared.config.Config.{Config}
 use Rattle.config_text.specs.declared.form.FirstForm.{FirstForm}
 use Rattle.config_text.specs.declared.text_kind.TextKind.{TextKind}
-use Rattle.config_text.specs.declared.text_kind.TextKind.TheVariants.{TooLong, BadByte, BadLine, BadName, BadWidth, RepeatedSection, RepeatedSetting, TooManySections, TooManyLinks, Unbuilt}
 use Rattle.scene_model.specs.Logs.{log_of}
-use Rattle.plain_run.specs.Plain.{scene_of}
+use Rattle.scene_model.specs.declared.scene.Scene.{Scene}
+use Rattle.music_setup.specs.Scenes.{scene_of}
+use Rattle.music_setup.specs.Texts.{line_end, text_of_fault}
+use Rattle.music_setup.specs.declared.fault.SetupFault.{SetupFault}
+use Rattle.music_setup.specs.declared.fault.SetupFault.TheVariants as setup
+use Rattle.plain_run.specs.Plain as plain
 use Rattle.music_cli.specs.Words.{command_of}
 use Rattle.music_cli.specs.declared.command_line.Command.{Command}
-use Rattle.music_cli.specs.declared.command_line.Command.TheVariants.{Run}
+use Rattle.music_cli.specs.declared.command_line.Command.TheVariants.{Check, Run}
 use Rattle.music_cli.specs.declared.status.Status.{Status}
-use Rattle.music_cli.specs.declared.status.Status.TheVariants.{Done, Usage, TextFault, ReadFault, WriteFault, NoMemory}
+use Rattle.music_cli.specs.declared.status.Status.TheVariants.{Done, Usage, TextFault, SceneFault, ReadFault, WriteFault, NoMemory}
+
+-- ---- statuses
 
 -- the exit status of each outcome
 abbrev pub number_of : Status → ℕ
 number_of Done = 0
 number_of Usage = 2
 number_of TextFault = 3
+number_of SceneFault = 4
 number_of ReadFault = 6
 number_of WriteFault = 7
 number_of NoMemory = 8
 
--- LF
-abbrev pub line_end : ℕ
-line_end = 10
+-- the outcome that each fault is
+abbrev pub status_of : SetupFault → Status
+status_of (setup.Text _ _) = TextFault
+status_of (setup.Scene _) = SceneFault
+status_of (setup.Link _ _) = SceneFault
+status_of setup.Memory = NoMemory
+
+-- the outcomes that can come at all: where the words are refused, and of each command
+abbrev pub outcomes_of : Option Command → List Status
+outcomes_of None = Usage ∷ WriteFault ∷ []
+outcomes_of (Some Check) = Done ∷ TextFault ∷ SceneFault ∷ ReadFault ∷ WriteFault ∷ NoMemory ∷ []
+outcomes_of (Some Run) = Done ∷ TextFault ∷ ReadFault ∷ WriteFault ∷ NoMemory ∷ []
+
+-- ---- texts
 
 unfoldable pub usage_text : List ℕ
 usage_text = codes "usage: music check | plan | order | run [--workers N] | load --number N [--workers N]" ++ line_end ∷ []
@@ -34,43 +52,58 @@ usage_text = codes "usage: music check | plan | order | run [--workers N] | load
 unfoldable pub read_fault_text : List ℕ
 read_fault_text = codes "read fault" ++ line_end ∷ []
 
-abbrev pub kind_name : TextKind → List ℕ
-kind_name TooLong = codes "TooLong"
-kind_name BadByte = codes "BadByte"
-kind_name BadLine = codes "BadLine"
-kind_name BadName = codes "BadName"
-kind_name BadWidth = codes "BadWidth"
-kind_name RepeatedSection = codes "RepeatedSection"
-kind_name RepeatedSetting = codes "RepeatedSetting"
-kind_name TooManySections = codes "TooManySections"
-kind_name TooManyLinks = codes "TooManyLinks"
-kind_name Unbuilt = codes "Unbuilt"
+-- how many applications and connections a scene has
+unfoldable pub ok_text : Scene → List ℕ
+ok_text scene = codes "ok: " ++ decimal (length scene.apps) ++ codes " applications, " ++ decimal (length scene.links) ++ codes " connections" ++ line_end ∷ []
 
--- a line and its fault
-unfoldable pub text_fault : ℕ → TextKind → List ℕ
-text_fault line kind = codes "text fault: line " ++ decimal line ++ codes ": " ++ kind_name kind ++ line_end ∷ []
+-- ---- answers
 
--- what a right text gets: the log of its scene where it has the first form, and otherwise the line at which it leaves it
+-- the command is done, and this text is what it writes
+abbrev pub AnswersDone : List ℕ → Status → List ℕ → Type 0
+AnswersDone done status text = (status ≡ Done) × (text ≡ done)
+
+-- a fault gets its status and its text; where it is one of an application, that is named as in the configuration
+abbrev pub AnswersFault : Option Config → SetupFault → Status → List ℕ → Type 0
+AnswersFault config fault status text = (status ≡ status_of fault) × (text ≡ text_of_fault config fault)
+
+-- `check` answers how large the scene is that the configuration describes, or the first fault of the configuration
+abbrev pub AnswersScene : Config → Result Scene SetupFault → Status → List ℕ → Type 0
+AnswersScene config (Ok scene) = AnswersDone (ok_text scene)
+AnswersScene config (Err fault) = AnswersFault (Some config) fault
+
+-- `run` answers the log of the scene where the text has the first form, and otherwise the line at which it leaves that form
 abbrev pub AnswersForm : Result FirstForm (ℕ × TextKind) → Status → List ℕ → Type 0
-AnswersForm (Ok form) status text = (status ≡ Done) × (text ≡ log_of (scene_of form))
-AnswersForm (Err fault) status text = (status ≡ TextFault) × (text ≡ text_fault fault.0 fault.1)
+AnswersForm (Ok form) = AnswersDone (log_of (plain.scene_of form))
+AnswersForm (Err fault) = AnswersFault None (setup.Text fault.0 fault.1)
 
--- a faulty text gets its first fault
-abbrev pub AnswersFault : List ℕ → Status → List ℕ → Type 0
-AnswersFault bytes status text = (line : ℕ) × (kind : TextKind) × HasFault bytes line kind × (status ≡ TextFault) × (text ≡ text_fault line kind)
+-- what a command answers to a configuration and the bytes that spell it
+abbrev pub AnswersConfig : Command → Config → List ℕ → Status → List ℕ → Type 0
+AnswersConfig Check config bytes = AnswersScene config (scene_of config)
+AnswersConfig Run config bytes = AnswersForm (first_form bytes)
 
--- a text that spells a configuration gets what its form gets, and any other one its first fault
-abbrev pub AnswersRun : List ℕ → Status → List ℕ → Type 0
-AnswersRun bytes status text = AnswersFault bytes status text ⊎ ((config : Config) × Spells config bytes × AnswersForm (first_form bytes) status text)
+-- a faulty text gets its first fault, whatever the command is
+abbrev pub AnswersFaulty : List ℕ → Status → List ℕ → Type 0
+AnswersFaulty bytes status text = (line : ℕ) × (kind : TextKind) × HasFault bytes line kind × AnswersFault None (setup.Text line kind) status text
 
--- the bytes spell a configuration that can be run today
-abbrev pub CanRun : List ℕ → Type 0
-CanRun bytes = ((config : Config) × Spells config bytes) × IsOk (first_form bytes)
+-- a text gets its first fault, or what the command answers to the configuration that it spells
+abbrev pub AnswersText : Command → List ℕ → Status → List ℕ → Type 0
+AnswersText command bytes status text = AnswersFaulty bytes status text ⊎ ((config : Config) × Spells config bytes × AnswersConfig command config bytes status text)
 
 abbrev pub AnswersCommand : Option Command → List ℕ → Status → List ℕ → Type 0
 AnswersCommand None bytes status text = (status ≡ Usage) × (text ≡ usage_text)
-AnswersCommand (Some Run) bytes status text = AnswersRun bytes status text
+AnswersCommand (Some command) bytes status text = AnswersText command bytes status text
 
 -- words and bytes get this status and this text
 abbrev pub Answers : List (List ℕ) → List ℕ → Status → List ℕ → Type 0
 Answers words bytes status text = AnswersCommand (command_of words) bytes status text
+
+-- ---- what can be done
+
+-- `check` is done where the configuration describes a scene, `run` today where the text has the first form
+abbrev pub CanDoWith : Command → Config → List ℕ → Type 0
+CanDoWith Check config bytes = IsOk (scene_of config)
+CanDoWith Run config bytes = IsOk (first_form bytes)
+
+-- the bytes spell a configuration with which the command can be done
+abbrev pub CanDo : Command → List ℕ → Type 0
+CanDo command bytes = (config : Config) × Spells config bytes × CanDoWith command config bytes

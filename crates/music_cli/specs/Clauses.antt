@@ -1,9 +1,10 @@
 -- What holds of each call of the program, over any source and any sink.
-use Rattle.std.specs.Prelude.{◌≡◌, ◌≢◌, ◌⊎◌, ℕ, ◌<◌, ◌≤◌, true, false, List, length, take, Option, Some, IsTrue}
+use Rattle.std.specs.Prelude.{◌≡◌, ◌≢◌, ◌⊎◌, ℕ, ◌<◌, ◌≤◌, true, false, List, length, take, Option, Some, IsTrue, Contains}
 use Rattle.music_base.specs.Causes.{Rose}
 use Rattle.music_base.specs.Outside.{Gave, IsAtEnd, Took, TookPrefix}
-use Rattle.music_cli.specs.Words.{are_accepted}
-use Rattle.music_cli.specs.Answers.{Answers, CanRun, number_of, usage_text, read_fault_text}
+use Rattle.music_cli.specs.Words.{command_of, are_accepted}
+use Rattle.music_cli.specs.Answers.{Answers, CanDo, number_of, outcomes_of, usage_text, read_fault_text}
+use Rattle.music_cli.specs.declared.command_line.Command.{Command}
 use Rattle.music_cli.specs.declared.status.Status.{Status}
 use Rattle.music_cli.specs.declared.status.Status.TheVariants.{Done, Usage, ReadFault, WriteFault, NoMemory}
 
@@ -51,9 +52,9 @@ pub record IsRead (bytes : List ℕ) (source : Ends) : Type 0 where
 
 -- ---- clauses for every source and sink
 
--- the result is one of the statuses that can come at all
-abbrev pub IsStatus : ℕ → Type 0
-IsStatus result = (status : Status) × (result ≡ number_of status)
+-- the result is one of the statuses that can come to these words at all
+abbrev pub IsStatus : List (List ℕ) → ℕ → Type 0
+IsStatus words result = (status : Status) × Contains (outcomes_of (command_of words)) status × (result ≡ number_of status)
 
 -- accepted words never get the status of wrong words
 abbrev pub NotUsage : List (List ℕ) → ℕ → Type 0
@@ -94,10 +95,10 @@ abbrev pub HasPrefix : List (List ℕ) → Ends → Ends → ℕ → Type 0
 HasPrefix words source sink result = (bytes : List ℕ) → source.before ≡ Some bytes →
     ((result ≡ number_of WriteFault) ⊎ (result ≡ number_of NoMemory)) → (text : List ℕ) × IsText words bytes source text × WrotePrefix text sink
 
--- Completeness: accepted words and bytes that spell a configuration that can be run are done, or memory gave out, where
--- neither the source nor the sink failed.
+-- Completeness: where the words give a command, and the bytes spell a configuration with which it can be done, it is done,
+-- or memory gave out, where neither the source nor the sink failed.
 abbrev pub IsComplete : List (List ℕ) → Ends → Ends → ℕ → Type 0
-IsComplete words source sink result = (bytes : List ℕ) → source.before ≡ Some bytes → IsTrue (are_accepted words) → CanRun (read_part bytes) →
+IsComplete words source sink result = (command : Command) (bytes : List ℕ) → command_of words ≡ Some command → source.before ≡ Some bytes → CanDo command (read_part bytes) →
     (Failed source → ⊥) → (Failed sink → ⊥) → (result ≡ number_of Done) ⊎ (result ≡ number_of NoMemory)
 
 -- ---- how a call can end

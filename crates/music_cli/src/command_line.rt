@@ -4,6 +4,8 @@ ghost use Rattle.music_cli.specs.Words.{command_of, texts};
 /// What the program can be asked to do.
 #[derive(Clone, Copy, Debug, PartialEq, Eq)]
 pub enum Command {
+    /// Say how large the scene is that the text describes, or its first fault.
+    Check,
     /// Run the scene and write its log.
     Run,
 }
@@ -13,6 +15,7 @@ pub fn command_of(words: &[String]) -> Option<Command>
     ensures { result ≡ command_of (texts words.now) }
 {
     match words {
+        [word] if word.as_bytes() == b"check".as_slice() => Some(Command::Check),
         [word] if word.as_bytes() == b"run".as_slice() => Some(Command::Run),
         _ => None,
     }

@@ -1,6 +1,8 @@
 //! The program, from bytes to bytes: the words and the source's bytes decide the status and the text that is written.
 #![tactic(auto)]
 
+mod answering;
+mod checking;
 mod command_line;
 mod running;
 mod saying;

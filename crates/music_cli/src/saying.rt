@@ -1,12 +1,14 @@
 //! Texts that are written with a status.
-ghost use Rattle.std.specs.Prelude.{◌≡◌, ◌≤◌, IfOk};
-ghost use Rattle.music_cli.specs.Answers.{usage_text, read_fault_text, kind_name, text_fault};
-ghost use Rattle.music_cli.specs.Clauses.{ends, IsSaid};
+ghost use Rattle.std.specs.Prelude.{◌≡◌};
+ghost use Rattle.std.specs.Option.{option_copied};
+ghost use Rattle.music_setup.specs.Texts.{HasText};
+ghost use Rattle.music_cli.specs.Answers.{usage_text, read_fault_text, AnswersFault};
+ghost use Rattle.music_cli.specs.Clauses.{ends, IsGiven, IsSaid};
 
 use crate::Status;
-use config_text::TextKind;
-use itoa::Buffer;
+use config_text::Config;
 use music_base::{NoMemory, Sink, write_all};
+use music_setup::{SetupFault, fault_text};
 use std::alloc::Global;
 
 /// The line that refused words get.
@@ -25,44 +27,31 @@ pub fn read_fault_text() -> &'static [u8]
     b"read fault\n"
 }
 
-fn kind_name(kind: TextKind) -> &'static [u8]
-    ensures { result.now ≡ kind_name kind }
-{
-    match kind {
-        TextKind::TooLong => b"TooLong",
-        TextKind::BadByte => b"BadByte",
-        TextKind::BadLine => b"BadLine",
-        TextKind::BadName => b"BadName",
-        TextKind::BadWidth => b"BadWidth",
-        TextKind::RepeatedSection => b"RepeatedSection",
-        TextKind::RepeatedSetting => b"RepeatedSetting",
-        TextKind::TooManySections => b"TooManySections",
-        TextKind::TooManyLinks => b"TooManyLinks",
-        TextKind::Unbuilt => b"Unbuilt",
-    }
-}
-
-/// The line that names a text fault.
-#[tactic(auto, unfolding(crate::specs::Answers::text_fault))]
-pub fn text_fault(alloc: Global, line: u64, kind: TextKind) -> Result<Vec<u8>, NoMemory>
-    ensures { IfOk result (λ text. text.items ≡ text_fault line kind) }
-{
-    let mut text = Vec::new(alloc);
-    text.extend_from_slice(b"text fault: line ")?;
-    text.extend_from_slice(Buffer::new().format(line).as_bytes())?;
-    text.extend_from_slice(b": ")?;
-    text.extend_from_slice(kind_name(kind))?;
-    text.extend_from_slice(b"\n")?;
-    Ok(text)
-}
-
 /// Writes the text. The answer is the status, or that of a write fault.
 pub fn say<K: Sink>(sink: &mut K, status: Status, text: &[u8]) -> Status
-    ensures said { IsSaid status text.now (ends (K.taken sink.old) (K.taken sink.new) (K.faults sink.old) (K.faults sink.new)) result }
-    ensures never_falls { K.faults sink.old ≤ K.faults sink.new }
+    ensures { IsSaid status text.now (ends (K.taken sink.old) (K.taken sink.new) (K.faults sink.old) (K.faults sink.new)) result }
 {
     match write_all(sink, text) {
         Ok(()) => status,
         Err(_) => Status::WriteFault,
+    }
+}
+
+/// Writes the line of a fault. The answer is the status of the fault, or that of a write fault or of want of memory.
+///
+/// A fault of a text has no configuration beside it. The application that a fault of a scene names has to stand in the
+/// configuration, and want of memory has no line.
+pub fn refuse<K: Sink>(
+    alloc: Global,
+    config: Option<&Config>,
+    fault: SetupFault,
+    sink: &mut K,
+) -> Status
+    requires { HasText (option_copied config) fault }
+    ensures { IsGiven (AnswersFault (option_copied config.entry) fault) (ends (K.taken sink.old) (K.taken sink.new) (K.faults sink.old) (K.faults sink.new)) result }
+{
+    match fault_text(alloc, config, &fault) {
+        Ok(text) => say(sink, Status::of_fault(fault), &text),
+        Err(NoMemory) => Status::NoMemory,
     }
 }

@@ -1,14 +1,18 @@
 ghost use Rattle.std.specs.Prelude.{◌≡◌};
 
+use music_setup::SetupFault;
+
 /// How a call ended. The program exits with its number.
 #[derive(Clone, Copy, Debug, PartialEq, Eq)]
 pub enum Status {
-    /// The log was written.
+    /// The log was written, or the line `ok: A applications, L connections`.
     Done,
     /// The words were refused, and the usage line was written.
     Usage,
-    /// The text spells no scene that can be run, and the line of its fault was written.
+    /// The text spells no configuration, or none that can be run yet, and the line of its fault was written.
     TextFault,
+    /// The configuration describes no scene, and the line of its first fault was written.
+    SceneFault,
     /// The source failed.
     ReadFault,
     /// The sink failed.
@@ -19,7 +23,7 @@ pub enum Status {
 
 impl Status {
     ghost use Rattle.std.specs.Prelude.{◌≡◌};
-    ghost use Rattle.music_cli.specs.Answers.{number_of};
+    ghost use Rattle.music_cli.specs.Answers.{number_of, status_of};
 
     /// The exit status.
     pub fn number(self) -> u8
@@ -29,9 +33,21 @@ impl Status {
             Status::Done => 0,
             Status::Usage => 2,
             Status::TextFault => 3,
+            Status::SceneFault => 4,
             Status::ReadFault => 6,
             Status::WriteFault => 7,
             Status::NoMemory => 8,
+        }
+    }
+
+    /// The status of a fault.
+    pub(crate) fn of_fault(fault: SetupFault) -> Status
+        ensures { result ≡ status_of fault }
+    {
+        match fault {
+            SetupFault::Text { .. } => Status::TextFault,
+            SetupFault::Scene(_) | SetupFault::Link { .. } => Status::SceneFault,
+            SetupFault::Memory => Status::NoMemory,
         }
     }
 }

@@ -15,7 +15,7 @@ ghost use Rattle.music_cli.specs.Clauses.{
   WasRead,
 };
 
-use crate::running::run;
+use crate::answering::answer_text;
 use crate::saying::{read_fault_text, say, usage_text};
 use crate::{Command, Status, command_of};
 use music_base::{Gate, MOST_READ, ReadFault, Sink, Source, read_all};
@@ -35,9 +35,7 @@ fn follow<S: Source, K: Sink>(
         (ends (K.taken sink.old) (K.taken sink.new) (K.faults sink.old) (K.faults sink.new)) result }
 {
     match read_all(alloc, source, MOST_READ) {
-        Ok(bytes) => match command {
-            Command::Run => run(alloc, &bytes, sink),
-        },
+        Ok(bytes) => answer_text(alloc, command, &bytes, sink),
         Err(ReadFault::Source) => say(sink, Status::ReadFault, read_fault_text()),
         Err(ReadFault::Memory) => Status::NoMemory,
     }
@@ -62,19 +60,21 @@ fn answer<S: Source, K: Sink>(
 
 /// Does all that the program does for one worker, and starts no thread.
 ///
-/// The words are those behind the program's name, and exactly the one word `run` is accepted. The source is then read to
-/// its end, or one byte further than a text may be long, and the log of the scene that the text spells is written to
-/// the sink, or the line that says why there is none. The answer is the program's exit status: 0 done, 2 wrong words,
-/// 3 a fault of the text, 6 the source failed, 7 the sink failed, 8 memory was not found.
+/// The words are those behind the program's name, and exactly the one word `check` or the one word `run` is accepted.
+/// The source is then read to its end, or one byte further than a text may be long. Written to the sink is what the
+/// command asks of the configuration that the text spells, or the line that says why there is none: by `check` how many
+/// applications and connections its scene has, by `run` the log of the scene. The answer is the program's exit status:
+/// 0 done, 2 wrong words, 3 a fault of the text, 4 a fault of the scene or of a connection, 6 the source failed, 7 the
+/// sink failed, 8 memory was not found. Today `run` serves texts of the first form alone and refuses any other one with
+/// status 3, so it never ends with 4.
 pub fn music_alone<S: Source, K: Sink>(
     alloc: Global,
     words: &Vec<String>,
     source: &mut S,
     sink: &mut K,
 ) -> u8
-    ensures status_in_range { IsStatus result }
-
     // for every source and every sink
+    ensures status_in_range { IsStatus (texts words.now.items) result }
     ensures accepted_words_are_no_usage { NotUsage (texts words.now.items) result }
     ensures refused_words_are_usage { IsUsage (texts words.now.items)
         (ends (S.left source.old) (S.left source.new) (S.faults source.old) (S.faults source.new))
@@ -113,9 +113,8 @@ pub fn music<R: Threads + Wait + Sync, S: Source, K: Sink, G: Gate>(
     sink: &mut K,
     gate: &G,
 ) -> u8
-    ensures status_in_range { IsStatus result }
-
     // for every source and every sink
+    ensures status_in_range { IsStatus (texts words.now.items) result }
     ensures accepted_words_are_no_usage { NotUsage (texts words.now.items) result }
     ensures refused_words_are_usage { IsUsage (texts words.now.items)
         (ends (S.left source.old) (S.left source.new) (S.faults source.old) (S.faults source.new))

@@ -6,8 +6,18 @@
 #[cfg(test)]
 mod calls;
 #[cfg(test)]
+mod checks;
+#[cfg(test)]
+mod port_rows;
+#[cfg(test)]
 mod refused_memory;
 #[cfg(test)]
+mod rows;
+#[cfg(test)]
+mod rule_rows;
+#[cfg(test)]
 mod runs;
+#[cfg(test)]
+mod scene_rows;
 #[cfg(test)]
 mod texts;

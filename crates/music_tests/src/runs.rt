@@ -93,7 +93,7 @@ const CASES: &[Case<'static>] = &[
         ..REFUSED
     },
     Case {
-        words: &["check"],
+        words: &["check", "x"],
         ..REFUSED
     },
     Case {

@@ -1,5 +1,5 @@
-use Rattle.music_cli.proofs.Endings.{run_unfound}
+use Rattle.music_cli.proofs.Endings.{form_unfound}
 use Rattle.music_cli.proofs.running.run.Goals as goal
 
-pub returns-in-Err-Memory-clause-given : goal.returns-in-Err-Memory-clause-given
-returns-in-Err-Memory-clause-given g c = run_unfound _ _ _
+pub returns-in-Err-Memory : goal.returns-in-Err-Memory
+returns-in-Err-Memory g c = form_unfound _ _ _

@@ -13,17 +13,17 @@ is_log : (form : FirstForm) (scene : Scene) (written : List Row) → scene ≡ s
 unfolding log_of
 is_log form scene written same all = rw (same, all) refl
 
-pub returns-in-Ok-write_rows-clause-given : goal.returns-in-Ok-write_rows-clause-given
-returns-in-Ok-write_rows-clause-given g c =
+pub returns-in-Ok-write_rows : goal.returns-in-Ok-write_rows
+returns-in-Ok-write_rows g c =
     let log = is_log c.args.form.now c.in-Ok.scene c.as_slice.result.now c.in-Ok.ensures (c.as_slice.ensures ∙ c.in-Ok-plain_rows.ensures.history) in
     record { status = Done; text = log_of (scene_of c.args.form.now); found_so = (refl, refl); cases = inl (refl, rw log at c.in-Ok-write_rows.ensures.all); prefix = rw log at c.in-Ok-write_rows.ensures.prefix }
 
-pub returns-in-Err-Sink-clause-given : goal.returns-in-Err-Sink-clause-given
-returns-in-Err-Sink-clause-given g c =
+pub returns-in-Err-Sink : goal.returns-in-Err-Sink
+returns-in-Err-Sink g c =
     let log = is_log c.args.form.now c.in-Ok.scene c.as_slice.result.now c.in-Ok.ensures (c.as_slice.ensures ∙ c.in-Ok-plain_rows.ensures.history) in
     record { status = Done; text = log_of (scene_of c.args.form.now); found_so = (refl, refl); cases = inr (inl (refl, (rw c.in-Err-Sink.field-0-is at c.in-Err-Sink.ensures.cause) refl)); prefix = rw log at c.in-Err-Sink.ensures.prefix }
 
-pub returns-clause-given : goal.returns-clause-given
-returns-clause-given g c =
+pub returns : goal.returns
+returns g c =
     let log = is_log c.args.form.now c.in-Ok.scene c.as_slice.result.now c.in-Ok.ensures (c.as_slice.ensures ∙ c.in-Ok-plain_rows.ensures.history) in
     record { status = Done; text = log_of (scene_of c.args.form.now); found_so = (refl, refl); cases = inr (inr refl); prefix = rw log at c.in-Err-Memory.ensures.prefix }

@@ -9,4 +9,4 @@ pub returns-in-Ok : goal.returns-in-Ok
 returns-in-Ok g c words is =
     let accepted : are_accepted words ≡ true = ap is_some is in
     answered accepted c.in-Ok.bytes.items (record { gave = c.in-Ok.ensures.read; size = c.in-Ok.ensures.size; whole = c.in-Ok.ensures.whole })
-    (given_to_words c.args.command words c.in-Ok.bytes.items c.deref.result.now _ _ c.deref.ensures.value is c.run.ensures.given)
+    (given_to_words c.args.command words c.in-Ok.bytes.items c.deref.result.now _ _ c.deref.ensures.value is c.answer_text.ensures)

@@ -1,5 +1,8 @@
-use Rattle.music_cli.proofs.Endings.{has_answer, has_prefix, is_complete, was_read}
+use Rattle.music_cli.proofs.Endings.{is_status, has_answer, has_prefix, is_complete, was_read}
 use Rattle.music_cli.proofs.top.music_alone.Goals as goal
+
+pub returns-clause-status_in_range : goal.returns-clause-status_in_range
+returns-clause-status_in_range g c = rw (c.number.ensures, ← c.deref.ensures.value) (is_status _ _ _ _ c.answer-status.ensures)
 
 pub returns-clause-answers : goal.returns-clause-answers
 returns-clause-answers g c = rw (c.number.ensures, ← c.deref.ensures.value) (has_answer _ _ _ _ c.answer-status.ensures)
