@@ -1,7 +1,6 @@
 -- A rule that is read has no fault.
-use Rattle.std.proofs.Common.{◌≡◌, ℕ, ◌+◌, ◌<◌, ◌≤◌, Bool, true, false, List, [], ◌∷◌, ◌++◌, length, refl, sym, ap, inl, inr, arith, length-append}
+use Rattle.std.proofs.Common.{◌≡◌, ℕ, ◌+◌, ◌<◌, Bool, true, false, List, [], ◌∷◌, ◌++◌, length, refl, sym, ap, inl, inr, arith, length-append}
 use Rattle.std.specs.Prelude.{Option, Some, None, Result, Ok, Err, not, ◌&&◌, if◌then◌else◌}
-use Rattle.std.specs.List.{list_all}
 use Rattle.std.proofs.lemmas.Bool.{cases_lt, lt-leb, le-leb}
 use Rattle.std.proofs.lemmas.List.Folds.{list_all-append}
 use Rattle.text_words.specs.Words.{declarations}
@@ -9,12 +8,14 @@ use Rattle.text_words.specs.InTurn.{unless}
 use Rattle.scene_model.specs.declared.port.PortDecl.{PortDecl}
 use Rattle.scene_model.specs.declared.rule.Rule.{Rule}
 use Rattle.app_scripts.specs.Forms.{rule_in}
-use Rattle.app_scripts.specs.Rules.{most_rules, ports_stand, indices_stand, after_fits, rate_fits, stands, fault_of, judged, rule_beside, rules_of, runs_for}
+use Rattle.scene_model.specs.Limits.{most_rules}
+use Rattle.scene_model.specs.Rules.{AreRules, ports_stand, indices_stand, after_fits, rate_fits, stands, runs_for}
+use Rattle.app_scripts.specs.Rules.{fault_of, judged, rule_beside, rules_of}
 use Rattle.app_scripts.specs.declared.fault.RuleFault.{RuleFault}
 use Rattle.app_scripts.specs.declared.fault.RuleFault.TheVariants.{RuleText}
-use Rattle.app_scripts.specs.Spellable.{is_spellable}
+use Rattle.scene_model.specs.Spellable.{is_spellable}
 use Rattle.app_scripts.proofs.RuleForms.{is_spellable-rule_in}
-use Rattle.app_scripts.proofs.Turns.{in_turn-keeps}
+use Rattle.text_words.proofs.Turns.{in_turn-keeps}
 
 -- four tests in turn find no fault where all pass
 all_pass : (a b c d : Bool) (e f g h : RuleFault)
@@ -57,15 +58,9 @@ from_judged : (ports : List PortDecl) (tick lasts place : ℕ) (given : Rule) (s
 from_judged ports tick lasts place given None gave = absurd cc
 from_judged ports tick lasts place given (Some rule) gave = from_unless ports tick lasts place rule given _ refl gave
 
--- what has been read: rules that a text can spell, without a fault, and not too many
-pub record AreRead (ports : List PortDecl) (tick lasts : ℕ) (rules : List Rule) : Type 0 where
-  pub spellable : list_all is_spellable rules ≡ true
-  pub stand : list_all (stands ports tick lasts) rules ≡ true
-  pub few : length rules ≤ most_rules
-
 -- one rule more is read
-one_more : (ports : List PortDecl) (tick lasts : ℕ) (before : List Rule) (rule : Rule) → AreRead ports tick lasts before → length before < most_rules
-    → is_spellable rule ≡ true → stands ports tick lasts rule ≡ true → AreRead ports tick lasts (before ++ rule ∷ [])
+one_more : (ports : List PortDecl) (tick lasts : ℕ) (before : List Rule) (rule : Rule) → AreRules ports tick lasts before → length before < most_rules
+    → is_spellable rule ≡ true → stands ports tick lasts rule ≡ true → AreRules ports tick lasts (before ++ rule ∷ [])
 one_more ports tick lasts before rule so_far room spells is = record {
   spellable = rw (list_all-append is_spellable before (rule ∷ []), so_far.spellable, spells) refl;
   stand = rw (list_all-append (stands ports tick lasts) before (rule ∷ []), so_far.stand, is) refl;
@@ -73,8 +68,8 @@ one_more ports tick lasts before rule so_far room spells is = record {
 }
 
 -- each rule that is read after the others is such a rule
-kept : (ports : List PortDecl) (tick lasts : ℕ) (before : List Rule) (words : List (List ℕ)) (rule : Rule) → AreRead ports tick lasts before
-    → rule_beside ports tick lasts before words ≡ Ok rule → AreRead ports tick lasts (before ++ rule ∷ [])
+kept : (ports : List PortDecl) (tick lasts : ℕ) (before : List Rule) (words : List (List ℕ)) (rule : Rule) → AreRules ports tick lasts before
+    → rule_beside ports tick lasts before words ≡ Ok rule → AreRules ports tick lasts (before ++ rule ∷ [])
 unfolding rule_beside
 kept ports tick lasts before words rule so_far gave = elim (cases_lt (length before) most_rules) [
   | inl room ↦
@@ -84,9 +79,9 @@ kept ports tick lasts before words rule so_far gave = elim (cases_lt (length bef
 ]
 
 -- all rules of a text are such rules
-pub rules_of-read : (ports : List PortDecl) (tick stop : ℕ) (text : List ℕ) (rules : List Rule) → rules_of ports tick stop text ≡ Ok rules
-    → AreRead ports tick (runs_for stop tick) rules
-rules_of-read ports tick stop text rules gave =
+pub rules_of-are : (ports : List PortDecl) (tick stop : ℕ) (text : List ℕ) (rules : List Rule) → rules_of ports tick stop text ≡ Ok rules
+    → AreRules ports tick (runs_for stop tick) rules
+rules_of-are ports tick stop text rules gave =
     let lasts = runs_for stop tick in
-    in_turn-keeps (rule_beside ports tick lasts) (AreRead ports tick lasts) (kept ports tick lasts) (declarations text) [] rules
+    in_turn-keeps (rule_beside ports tick lasts) (AreRules ports tick lasts) (kept ports tick lasts) (declarations text) [] rules
     (record { spellable = refl; stand = refl; few = omega arith }) gave

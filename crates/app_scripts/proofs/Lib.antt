@@ -3,4 +3,3 @@ pub mod Named
 pub mod RuleForms
 pub mod Spelling
 pub mod Steps
-pub mod Turns

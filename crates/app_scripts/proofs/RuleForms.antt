@@ -5,9 +5,11 @@ use Rattle.std.specs.Cmp.Derive.{both_true}
 use Rattle.music_base.specs.Names.{is_name, is_word}
 use Rattle.text_words.specs.Counts.{fixed}
 use Rattle.scene_model.specs.declared.rule.Rule.{Rule}
-use Rattle.app_scripts.specs.Forms.{Words, name_word, index_word, time_word, shift_word, scale_word, message_word, name_after, time_after, fixed_after, shift_after, scale_after, last_time_after, last_fixed_after, first, only, emit_at, emit_every, pass, set_value, ramp, copy_values, when_over, say, reply, rule_in, greatest_shift}
-use Rattle.app_scripts.specs.Spellable.{is_index, is_time, is_value, lies_within, is_spellable}
-use Rattle.app_scripts.proofs.Steps.{IfSome-bind, IfSome-first, IfSome-only, IfSome-first_after, IfSome-only_after, IfSome-or}
+use Rattle.app_scripts.specs.Forms.{Words, name_word, index_word, time_word, shift_word, scale_word, message_word, name_after, time_after, fixed_after, shift_after, scale_after, last_time_after, last_fixed_after, first, only, emit_at, emit_every, pass, set_value, ramp, copy_values, when_over, say, reply, rule_in}
+use Rattle.scene_model.specs.Limits.{greatest_shift}
+use Rattle.scene_model.specs.Spellable.{is_index, is_time, is_value, lies_within, is_spellable}
+use Rattle.text_words.proofs.Options.{IfSome-bind, IfSome-or}
+use Rattle.app_scripts.proofs.Steps.{IfSome-first, IfSome-only, IfSome-first_after, IfSome-only_after}
 use Rattle.app_scripts.proofs.Spelling.{name_is, index_is, time_is, shift_is, scale_is, message_is, fixed_is, IsScale}
 
 abbrev Fits : Rule → Type 0

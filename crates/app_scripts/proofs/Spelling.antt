@@ -1,26 +1,20 @@
 -- What one word spells lies within the limits.
-use Rattle.std.proofs.Common.{◌≡◌, ℕ, zero, suc, ◌+◌, ◌*◌, ◌/◌, ◌^◌, ◌<◌, Bool, true, false, List, refl, arith}
-use Rattle.std.specs.Prelude.{Result, Ok, Err, IfSome, IfOk, nat_le, ◌&&◌, ℤ, if◌then◌else◌}
-use Rattle.std.specs.Result.{result_ok}
+use Rattle.std.proofs.Common.{◌≡◌, ℕ, zero, suc, ◌+◌, ◌*◌, ◌^◌, ◌<◌, Bool, true, false, List, refl, arith}
+use Rattle.std.specs.Prelude.{IfSome, nat_le, ℤ}
 use Rattle.std.specs.List.{before_first, after_first}
 use Rattle.std.specs.Str.Parse.{digits_value, starts_with_minus, without_leading_sign}
-use Rattle.std.proofs.lemmas.Bool.{and_parts, le-leb}
+use Rattle.std.proofs.lemmas.Bool.{le-leb}
 use Rattle.music_base.specs.Names.{is_name, is_word}
-use Rattle.music_base.specs.Times.{greatest_time, time_value, scaled, in_range, digits_of, raised, lowered}
-use Rattle.music_base.specs.declared.times.TimeFault.{TimeFault}
-use Rattle.music_base.specs.declared.times.TimeFault.TheVariants.{NotWhole, Spelling, Range}
-use Rattle.text_words.specs.Counts.{is_count, count_up_to, with_sign, signed_within, is_decimal, whole, fraction, worth, millionths, without_minus, fixed, most_whole_digits, most_fraction_digits}
+use Rattle.text_words.specs.Counts.{count_up_to, with_sign, signed_within, is_decimal, whole, fraction, worth, millionths, without_minus, fixed, most_whole_digits, most_fraction_digits}
 use Rattle.text_words.specs.Parts.{is_byte}
 use Rattle.text_words.proofs.Digits.{digits_value-below, worth_below, whole_is_few, fraction_is_few}
-use Rattle.app_scripts.specs.Forms.{name_word, index_word, time_word, shift_word, slash, scale_word, message_word, greatest_shift, greatest_numerator, greatest_denominator, greatest_index}
-use Rattle.app_scripts.specs.Spellable.{greatest_value, is_index, is_time, lies_within, is_value, is_denominator}
-use Rattle.app_scripts.proofs.Steps.{IfSome-bind, IfSome-when, IfSome-map}
+use Rattle.app_scripts.specs.Forms.{name_word, index_word, time_word, shift_word, slash, scale_word, message_word}
+use Rattle.scene_model.specs.Spellable.{is_index, is_time, lies_within, is_value, is_denominator}
+use Rattle.text_words.proofs.Options.{IfSome-bind, IfSome-when, IfSome-map, count_up_to-is}
+use Rattle.music_base.proofs.TimeRange.{result_ok-time_value}
+use Rattle.scene_model.specs.Limits.{greatest_shift, greatest_numerator, greatest_denominator, greatest_index, greatest_value}
 
 -- ---- counts and signs
-
-count_is : (most : ℕ) (text : List ℕ) → IfSome (count_up_to most text) (λ n. nat_le n most ≡ true)
-unfolding count_up_to
-count_is most text = IfSome-when (λ n. nat_le n most ≡ true) (digits_value 10 text) (is_count text && nat_le (digits_value 10 text) most) (λ is. (and_parts _ _ is).1)
 
 within_is : (most n : ℕ) (negative : Bool) → nat_le n most ≡ true → lies_within most (with_sign negative n) ≡ true
 within_is most n false is = is
@@ -31,7 +25,7 @@ signed_is : (most : ℕ) (text : List ℕ) → IfSome (signed_within most text) 
 unfolding signed_within
 signed_is most text =
     IfSome-map (λ n. nat_le n most ≡ true) (λ z. lies_within most z ≡ true) (with_sign (starts_with_minus text)) (count_up_to most (without_leading_sign text))
-    (count_is most (without_leading_sign text)) (λ n is. within_is most n (starts_with_minus text) is)
+    (count_up_to-is most (without_leading_sign text)) (λ n is. within_is most n (starts_with_minus text) is)
 
 -- ---- values
 
@@ -51,27 +45,6 @@ fixed_is text =
     IfSome-map (λ n. nat_le n greatest_value ≡ true) (λ v. is_value v ≡ true) (with_sign (starts_with_minus text)) (millionths (without_minus text))
     (millionths_is (without_minus text)) (λ n is. within_is greatest_value n (starts_with_minus text) is)
 
--- ---- times
-
-IfOk-test : (P : ℕ → Type 0) (test : Bool) (r : Result ℕ TimeFault) (e : TimeFault) → IfOk r P → IfOk (if test then r else Err e) P
-IfOk-test P true r e is = is
-IfOk-test P false r e is = tt
-
-in_range_is : (n : ℕ) → IfOk (in_range n) (λ time. is_time time ≡ true)
-in_range_is n = elim (nat_le n greatest_time) as (λ b. nat_le n greatest_time ≡ b → IfOk (if b then Ok n else Err Range) (λ time. is_time time ≡ true)) [ true ↦ (λ is. is) | false ↦ (λ is. tt) ] refl
-
-scaled_is : (digits up down : ℕ) → IfOk (scaled digits up down) (λ time. is_time time ≡ true)
-unfolding scaled
-scaled_is digits up down = IfOk-test (λ time. is_time time ≡ true) _ _ NotWhole (in_range_is ((digits * 10 ^ up) / 10 ^ down))
-
-time_value_is : (text : List ℕ) → IfOk (time_value text) (λ time. is_time time ≡ true)
-unfolding time_value
-time_value_is text = IfOk-test (λ time. is_time time ≡ true) _ _ Spelling (scaled_is (digits_of text) (raised text) (lowered text))
-
-from_ok : (r : Result ℕ TimeFault) → IfOk r (λ time. is_time time ≡ true) → IfSome (result_ok r) (λ time. is_time time ≡ true)
-from_ok (Ok time) is = is
-from_ok (Err fault) is = tt
-
 -- ---- words
 
 pub name_is : (word : List ℕ) → IfSome (name_word word) (λ name. is_name name ≡ true)
@@ -84,11 +57,11 @@ message_is word = IfSome-when (λ message. is_word message ≡ true) word (is_wo
 
 pub index_is : (word : List ℕ) → IfSome (index_word word) (λ index. is_index index ≡ true)
 unfolding index_word
-index_is word = count_is greatest_index word
+index_is word = count_up_to-is greatest_index word
 
 pub time_is : (word : List ℕ) → IfSome (time_word word) (λ time. is_time time ≡ true)
 unfolding time_word
-time_is word = from_ok (time_value word) (time_value_is word)
+time_is word = result_ok-time_value word
 
 pub shift_is : (word : List ℕ) → IfSome (shift_word word) (λ shift. lies_within greatest_shift shift ≡ true)
 unfolding shift_word
@@ -101,5 +74,5 @@ pub scale_is : (word : List ℕ) → IfSome (scale_word word) IsScale
 unfolding scale_word
 scale_is word =
     IfSome-bind (λ n. lies_within greatest_numerator n ≡ true) IsScale _ _ (signed_is greatest_numerator (before_first (is_byte slash) word)) (λ n near.
-    IfSome-bind (λ m. nat_le m greatest_denominator ≡ true) IsScale _ _ (count_is greatest_denominator (after_first (is_byte slash) word)) (λ m few.
+    IfSome-bind (λ m. nat_le m greatest_denominator ≡ true) IsScale _ _ (count_up_to-is greatest_denominator (after_first (is_byte slash) word)) (λ m few.
     IfSome-when IsScale (n, m) (nat_le 1 m) (λ some. (near, rw (some, few) refl))))

@@ -7,24 +7,11 @@ use Rattle.music_base.specs.Times.{time_value}
 use Rattle.text_words.specs.Counts.{count_up_to, signed_within, fixed}
 use Rattle.text_words.specs.Options.{◌>>=◌, ◌when◌, first_some}
 use Rattle.text_words.specs.Parts.{is_byte}
+use Rattle.scene_model.specs.Limits.{greatest_shift, greatest_numerator, greatest_denominator, greatest_index}
 use Rattle.scene_model.specs.declared.rule.Rule.{Rule}
 use Rattle.scene_model.specs.declared.rule.Rule.TheVariants.{EmitAt, EmitEvery, Pass, SetValue, Ramp, CopyValues, When, Say, Reply}
 
 -- ---- what one word spells
-
--- how far from zero a shift of indices and the numerator of a scale may lie, and how great a denominator may be
-abbrev pub greatest_shift : ℕ
-greatest_shift = 65_535
-
-abbrev pub greatest_numerator : ℕ
-greatest_numerator = 1_000_000
-
-abbrev pub greatest_denominator : ℕ
-greatest_denominator = 1_000_000
-
--- the greatest global index
-abbrev pub greatest_index : ℕ
-greatest_index = 65_535
 
 -- a NAME
 unfoldable pub name_word : List ℕ → Option (List ℕ)

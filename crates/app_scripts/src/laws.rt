@@ -1,6 +1,6 @@
 //! Laws over the definitions: what small texts spell.
-ghost use Rattle.std.specs.Prelude.{◌≡◌, ◌≤◌, ℕ, List, length, true, [], ◌∷◌, pos, negsuc, codes};
-ghost use Rattle.std.specs.List.{list_all};
+ghost use Rattle.std.specs.Prelude.{◌≡◌, ℕ, List, [], ◌∷◌, pos, negsuc, codes};
+ghost use Rattle.scene_model.specs.Rules.{AreRules, runs_for};
 ghost use Rattle.scene_model.specs.declared.port.PortDecl.{PortDecl};
 ghost use Rattle.scene_model.specs.declared.rule.Rule.{Rule};
 ghost use Rattle.scene_model.specs.declared.rule.Rule.TheVariants.{
@@ -21,8 +21,7 @@ ghost use Rattle.app_scripts.specs.declared.fault.RuleFault.TheVariants.{
   RuleAfter,
   RuleRate,
 };
-ghost use Rattle.app_scripts.specs.Rules.{most_rules, rules_of, runs_for, stands};
-ghost use Rattle.app_scripts.specs.Spellable.{is_spellable};
+ghost use Rattle.app_scripts.specs.Rules.{rules_of};
 ghost use Rattle.app_scripts.specs.WorkedRules.{spelled};
 
 /// A rule of each form, blank pieces, and texts with faults, at an application with an output and an input of each
@@ -60,10 +59,8 @@ pub fn worked_rules()
     ensures port_before_after { spelled (codes "pass spikes to in shift 0 after 1") ≡ Err (RulePort 1) }
 {}
 
-/// Each rule that a text spells for an application lies within the limits of numbers and words, and has no fault there;
-/// and there are not too many.
+/// The rules that a text spells for an application are rules of a scene without a fault: they lie within the limits of
+/// numbers and words, and each has the ports, the indices and the times that it asks for; and there are not too many.
 pub fn spelled_rules_stand()
-    ensures spellable { (ports : List PortDecl) (tick stop : ℕ) (text : List ℕ) (rules : List Rule) → rules_of ports tick stop text ≡ Ok rules → list_all is_spellable rules ≡ true }
-    ensures stand { (ports : List PortDecl) (tick stop : ℕ) (text : List ℕ) (rules : List Rule) → rules_of ports tick stop text ≡ Ok rules → list_all (stands ports tick (runs_for stop tick)) rules ≡ true }
-    ensures few { (ports : List PortDecl) (tick stop : ℕ) (text : List ℕ) (rules : List Rule) → rules_of ports tick stop text ≡ Ok rules → length rules ≤ most_rules }
+    ensures { (ports : List PortDecl) (tick stop : ℕ) (text : List ℕ) (rules : List Rule) → rules_of ports tick stop text ≡ Ok rules → AreRules ports tick (runs_for stop tick) rules }
 {}

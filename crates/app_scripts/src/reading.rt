@@ -1,14 +1,10 @@
 //! Reading the rules of a text, one after the other.
 ghost use Rattle.std.specs.Prelude.{◌≡◌, ◌≤◌, ◌<◌, length, IfOk, IfErr, OnOk, true};
 ghost use Rattle.text_words.specs.Words.{words};
-ghost use Rattle.app_scripts.specs.Rules.{
-  IsFaultOf,
-  most_rules,
-  names_differ,
-  rule_beside,
-  rules_of,
-  runs_for,
-};
+ghost use Rattle.scene_model.specs.Limits.{most_rules};
+ghost use Rattle.scene_model.specs.Ports.{names_differ};
+ghost use Rattle.scene_model.specs.Rules.{runs_for};
+ghost use Rattle.app_scripts.specs.Rules.{IsFaultOf, rule_beside, rules_of};
 
 use crate::RuleFault;
 use crate::forms::rule_in;
@@ -51,7 +47,7 @@ fn read_rule(
 }
 
 /// How long an application runs, in ns: its number of steps times its tick.
-#[tactic(auto, unfolding(crate::specs::Rules::runs_for))]
+#[tactic(auto, unfolding(scene_model::specs::Rules::runs_for))]
 fn runs_for(stop: Nanos, tick: Nanos) -> u128
     requires { 1 ≤ tick }
     ensures { result ≡ runs_for stop tick }

@@ -1,6 +1,6 @@
 //! A rule as words spell it, before any memory is asked for.
 ghost use Rattle.std.specs.Prelude.{◌≡◌, IfOk, true};
-ghost use Rattle.app_scripts.specs.Spellable.{is_spellable};
+ghost use Rattle.scene_model.specs.Spellable.{is_spellable};
 ghost use Rattle.app_scripts.specs.Spelled.{rule_of};
 
 use music_base::{Name, Nanos, NoMemory, Sample, Word};

@@ -3,18 +3,17 @@ ghost use Rattle.std.specs.Prelude.{◌≡◌, true};
 ghost use Rattle.std.specs.List.{find};
 ghost use Rattle.std.specs.Option.{option_copied};
 ghost use Rattle.music_base.specs.Names.{is_name};
-ghost use Rattle.app_scripts.specs.Rules.{
+ghost use Rattle.scene_model.specs.Rules.{
   after_fits,
-  fault_of,
   has_port,
   indices_stand,
   is_mapped,
-  is_named,
   is_rate,
   ports_stand,
   rate_fits,
 };
-ghost use Rattle.app_scripts.specs.Spellable.{is_spellable};
+ghost use Rattle.scene_model.specs.Spellable.{is_spellable};
+ghost use Rattle.app_scripts.specs.Rules.{fault_of, is_named};
 ghost use Rattle.app_scripts.specs.Spelled.{rule_of};
 
 use crate::RuleFault;
@@ -32,7 +31,7 @@ fn port_named<'a>(ports: &'a [PortDecl], name: &[u8]) -> Option<&'a PortDecl>
 }
 
 /// Whether a port of this name stands there, of this direction and kind.
-#[tactic(auto, unfolding(crate::specs::Rules::has_port), using(crate::proofs::Named::named))]
+#[tactic(auto, unfolding(scene_model::specs::Rules::has_port), using(crate::proofs::Named::named))]
 fn has_port(ports: &[PortDecl], name: &[u8], direction: Direction, kind: PortKind) -> bool
     requires { is_name name.now ≡ true }
     ensures { result ≡ has_port ports.now name.now direction kind }
@@ -74,7 +73,7 @@ fn ports_stand(ports: &[PortDecl], rule: &SpelledRule<'_>) -> bool
 }
 
 /// Whether some rank of the port of this name maps the index.
-#[tactic(auto, unfolding(crate::specs::Rules::is_mapped), using(crate::proofs::Named::named))]
+#[tactic(auto, unfolding(scene_model::specs::Rules::is_mapped), using(crate::proofs::Named::named))]
 fn is_mapped(ports: &[PortDecl], name: &[u8], index: u32) -> bool
     ensures { result ≡ is_mapped ports.now name.now index }
 {
@@ -115,7 +114,7 @@ fn after_fits(tick: u64, rule: &SpelledRule<'_>) -> bool
 }
 
 /// Whether a run that lasts so long, in ns, holds the period, and not too often.
-#[tactic(auto, unfolding(crate::specs::Rules::is_rate))]
+#[tactic(auto, unfolding(scene_model::specs::Rules::is_rate))]
 fn is_rate(lasts: u128, every: u64) -> bool
     ensures { result ≡ is_rate lasts every }
 {

@@ -2,12 +2,13 @@
 use Rattle.std.proofs.Common.{◌≡◌, ℕ, ◌+◌, ◌<◌, ◌≤◌, Bool, true, false, nat_eq, List, [], ◌∷◌, ◌++◌, length, take, drop, get_or, refl, sym, ◌∙◌, inl, inr, arith, append_assoc, append-nil}
 use Rattle.std.specs.Prelude.{Some, None, slice_set, nat_lt, ◌==◌, ◌||◌, not}
 use Rattle.std.specs.List.{list_any, list_all}
-use Rattle.std.proofs.lemmas.Bool.{cases_eq, cases_Bool, eq-eqb, ne_eqb, ltb-true, and_parts, or_parts}
+use Rattle.std.proofs.lemmas.Bool.{cases_eq, cases_Bool, eq-eqb, ne_eqb, ltb-true}
 use Rattle.std.proofs.lemmas.List.{take_more, drop_more, drop_all, get_or-set_other, length-set, get_or_default}
 use Rattle.std.proofs.lemmas.List.Folds.{list_any-append}
 use Rattle.std.proofs.lemmas.List.Sums.{AllPass-from_list_all}
 use Rattle.std.proofs.lemmas.Grind.{get_or-set_at}
 use Rattle.music_base.specs.Numbers.{all_differ}
+use Rattle.music_base.proofs.Lists.{all_differ-push}
 use Rattle.index_maps.specs.Indices.{are_indices}
 use Rattle.index_maps.specs.Repeats.{first_repeat, repeat_behind}
 use Rattle.index_maps.specs.declared.span.TheConstants.{INDEX_LIMIT}
@@ -94,19 +95,12 @@ not_false : (b : Bool) → b ≡ false → not b ≡ true
 not_false true e = sym e
 not_false false e = refl
 
-differ_push : (xs : List ℕ) (x : ℕ) → all_differ ◌==◌ xs ≡ true → has xs x ≡ false → all_differ ◌==◌ (xs ++ x ∷ []) ≡ true
-differ_push [] x differ new = refl
-differ_push (y ∷ ys) x differ new =
-    let parts = and_parts (not (list_any (λ z. y == z) ys)) (all_differ ◌==◌ ys) differ in
-    let others = or_parts (y == x) (has ys x) new in
-    rw (list_any-append (λ z. y == z) ys (x ∷ []), same_or (list_any (λ z. y == z) ys) y x others.0, parts.0) (differ_push ys x parts.1 others.1)
-
 differ_behind : (seen xs : List ℕ) → repeat_behind seen xs ≡ None → all_differ ◌==◌ seen ≡ true → all_differ ◌==◌ (seen ++ xs) ≡ true
 differ_behind seen [] none differ = rw (append-nil seen) differ
 differ_behind seen (x ∷ xs) none differ = elim (cases_Bool (has seen x)) [
   | inl repeats ↦ let other : Some x ≡ None = rw repeats at none in absurd cc
   | inr new ↦
-      let on = differ_behind (seen ++ x ∷ []) xs (rw new at none) (differ_push seen x differ new) in
+      let on = differ_behind (seen ++ x ∷ []) xs (rw new at none) (all_differ-push ◌==◌ seen x differ new) in
       rw (append_assoc seen (x ∷ []) xs) at on
 ]
 

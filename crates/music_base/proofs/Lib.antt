@@ -8,6 +8,7 @@ pub mod Ordered
 pub mod Scaling
 pub mod TimeForm
 pub mod TimeLaws
+pub mod TimeRange
 pub mod TimeSpelling
 pub mod Transfers
 pub mod WrittenTimes

@@ -1,11 +1,13 @@
 -- What filter, map and flat_map give, and consecutive numbers.
-use Rattle.std.proofs.Common.{◌≡◌, ℕ, zero, suc, ◌+◌, ◌<◌, ◌≤◌, min, Bool, true, false, ◌&&◌, nat_eq, nat_le, nat_lt, List, [], ◌∷◌, ◌++◌, map, refl, sym, ap, inl, inr, arith, add-zero, zero-add}
+use Rattle.std.proofs.Common.{◌≡◌, ℕ, zero, suc, ◌+◌, ◌<◌, ◌≤◌, min, Bool, true, false, not, ◌&&◌, nat_eq, nat_le, nat_lt, List, [], ◌∷◌, ◌++◌, length, get_or, map, refl, sym, ap, inl, inr, arith, add-zero, zero-add}
 use Rattle.std.specs.Prelude.{◌==◌}
 use Rattle.std.specs.List.{filter, flat_map, list_all, list_any, range_with_len, AllByRecursion}
-use Rattle.std.proofs.lemmas.Bool.{cases_Bool, cases_eq, cases_lt, eq-eqb, ne_eqb, lt-ltb, le-ltb}
+use Rattle.std.proofs.lemmas.Bool.{cases_Bool, cases_eq, cases_lt, eq-eqb, ne_eqb, lt-ltb, le-ltb, and_parts, or_parts, not-true}
 use Rattle.std.proofs.lemmas.Bool.Decides.{nat_tests}
 use Rattle.std.proofs.lemmas.List.{map-append}
 use Rattle.std.proofs.lemmas.List.Elements.{filter-append}
+use Rattle.std.proofs.lemmas.List.Folds.{list_any-append}
+use Rattle.music_base.specs.Numbers.{all_differ}
 
 -- ---- what holds of each element
 
@@ -25,10 +27,45 @@ pub All-map : {X Y : Type 0} (P : Y → Type 0) (f : X → Y) (xs : List X) → 
 All-map P f [] h = h
 All-map P f (x ∷ xs) h = (h.0, All-map P f xs h.1)
 
+pub All-push : {X : Type 0} (P : X → Type 0) (xs : List X) (x : X) → AllByRecursion P xs → P x → AllByRecursion P (xs ++ x ∷ [])
+All-push P [] x h is = (is, tt)
+All-push P (y ∷ ys) x h is = (h.0, All-push P ys x h.1 is)
+
+pub All-at : {X : Type 0} (P : X → Type 0) (xs : List X) (i : ℕ) (d : X) → AllByRecursion P xs → i < length xs → P (get_or xs i d)
+All-at P [] i d h lt = absurd (omega arith)
+All-at P (x ∷ xs) zero d h lt = h.0
+All-at P (x ∷ xs) (suc i) d h lt = All-at P xs i d h.1 (omega arith)
+
 -- what holds from a on holds of consecutive numbers from a on
 pub All-range_with_len : (P : ℕ → Type 0) (a n : ℕ) → ((i : ℕ) → a ≤ i → P i) → AllByRecursion P (range_with_len a n)
 All-range_with_len P a zero h = tt
 All-range_with_len P a (suc n) h = (h a (omega arith), All-range_with_len P (a + 1) n (λ i low. h i (omega arith)))
+
+-- ---- elements that differ
+
+-- one more that differs from each
+pub all_differ-push : {X : Type 0} (eq : X → X → Bool) (xs : List X) (y : X) → all_differ eq xs ≡ true → list_any (λ x. eq x y) xs ≡ false → all_differ eq (xs ++ y ∷ []) ≡ true
+all_differ-push eq [] y differ none = refl
+all_differ-push eq (x ∷ xs) y differ none =
+    let front = and_parts (not (list_any (eq x) xs)) (all_differ eq xs) differ in
+    let apart = or_parts (eq x y) (list_any (λ z. eq z y) xs) none in
+    rw (list_any-append (eq x) xs (y ∷ []), not-true (list_any (eq x) xs) front.0, apart.0) (all_differ-push eq xs y front.1 apart.1)
+
+none_passes : {X : Type 0} (p : X → Bool) (xs : List X) (i : ℕ) (d : X) → list_any p xs ≡ false → i < length xs → p (get_or xs i d) ≡ false
+none_passes p [] i d none lt = absurd (omega arith)
+none_passes p (x ∷ xs) zero d none lt = (or_parts (p x) (list_any p xs) none).0
+none_passes p (x ∷ xs) (suc i) d none lt = none_passes p xs i d (or_parts (p x) (list_any p xs) none).1 (omega arith)
+
+-- an element differs from each later one
+pub all_differ-at : {X : Type 0} (eq : X → X → Bool) (xs : List X) (i j : ℕ) (d : X) → all_differ eq xs ≡ true → i < j → j < length xs → eq (get_or xs i d) (get_or xs j d) ≡ false
+all_differ-at eq [] i j d differ before lt = absurd (omega arith)
+all_differ-at eq (x ∷ xs) i zero d differ before lt = absurd (omega arith)
+all_differ-at eq (x ∷ xs) zero (suc j) d differ before lt =
+    let front = and_parts (not (list_any (eq x) xs)) (all_differ eq xs) differ in
+    none_passes (eq x) xs j d (not-true (list_any (eq x) xs) front.0) (omega arith)
+all_differ-at eq (x ∷ xs) (suc i) (suc j) d differ before lt =
+    let front = and_parts (not (list_any (eq x) xs)) (all_differ eq xs) differ in
+    all_differ-at eq xs i j d front.1 (omega arith) (omega arith)
 
 -- ---- filters
 

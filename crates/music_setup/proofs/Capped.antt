@@ -4,7 +4,7 @@ use Rattle.std.proofs.Common.{◌≡◌, ℕ, ◌-◌, ◌*◌, ◌^◌, ◌≤�
 use Rattle.std.specs.Prelude.{min, nat_le}
 use Rattle.std.proofs.Math.Nat.{mul-le-mul_right}
 use Rattle.std.proofs.lemmas.Bool.{cases_lt, le-leb, lt-leb}
-use Rattle.music_setup.specs.Limits.{most_values}
+use Rattle.scene_model.specs.Limits.{most_values}
 
 pub few_values : (steps values kept product : ℕ) → kept ≡ min values (2 ^ 64 - 1) → product ≡ min (steps * kept) (2 ^ 64 - 1) → nat_le product most_values ≡ nat_le (steps * values) most_values
 few_values steps values kept product is_kept is_product =

@@ -3,4 +3,4 @@ pub mod Next
 pub mod OfApps
 pub mod OfConfig
 pub mod OfScenes
-pub mod PortNames
+pub mod Faultless

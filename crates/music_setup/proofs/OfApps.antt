@@ -5,7 +5,7 @@ use Rattle.std.specs.List.{list_all}
 use Rattle.std.proofs.lemmas.Bool.{and_parts, leb-true}
 use Rattle.config_text.specs.Lawful.{are_sections, is_lawful_section}
 use Rattle.config_text.specs.Pairs.{SectionList, has_own_keys}
-use Rattle.port_match.specs.Links.{most_apps}
+use Rattle.scene_model.specs.Limits.{most_apps}
 use Rattle.text_words.specs.InTurn.{◌>>=◌, faults_as}
 use Rattle.scene_model.specs.declared.port.PortDecl.{PortDecl}
 use Rattle.scene_model.specs.declared.rule.Rule.{Rule}

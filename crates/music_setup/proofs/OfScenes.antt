@@ -6,7 +6,9 @@ use Rattle.config_text.specs.declared.config.Config.{Config}
 use Rattle.scene_model.specs.Scenes.{no_app}
 use Rattle.scene_model.specs.declared.scene.AppDecl.{AppDecl}
 use Rattle.scene_model.specs.declared.scene.Link.{Link}
-use Rattle.port_match.specs.Links.{app_of, links_of, IsFaultOf, most_ports}
+use Rattle.scene_model.specs.Limits.{most_ports}
+use Rattle.scene_model.specs.Links.{app_of}
+use Rattle.port_match.specs.Links.{links_of, IsFaultOf}
 use Rattle.port_match.specs.declared.fault.MatchFault.{MatchFault}
 use Rattle.port_match.specs.declared.fault.MatchFault.TheVariants as match
 use Rattle.music_setup.specs.Apps.{HasFewPorts, apps_of}

@@ -13,10 +13,10 @@ use Rattle.config_text.specs.declared.config.Config.{Config}
 use Rattle.scene_model.specs.declared.port.PortDecl.{PortDecl}
 use Rattle.scene_model.specs.declared.rule.Rule.{Rule}
 use Rattle.scene_model.specs.declared.scene.AppDecl.{AppDecl}
-use Rattle.port_table.specs.Ports.{most_ports, most_ranks, ports_of}
+use Rattle.scene_model.specs.Limits.{most_ports, most_ranks, longest_tick, most_steps, most_values}
+use Rattle.port_table.specs.Ports.{ports_of}
 use Rattle.app_scripts.specs.Rules.{rules_of}
-use Rattle.music_setup.specs.Limits.{longest_tick, most_steps, most_values}
-use Rattle.music_setup.specs.Values.{values_in_run}
+use Rattle.scene_model.specs.Values.{values_in_run}
 use Rattle.music_setup.specs.declared.fault.AppKind.{AppKind}
 use Rattle.music_setup.specs.declared.fault.AppKind.TheVariants.{NpText, Binary, TickText, TooManySteps, Ports, Rules, TooManyValues}
 use Rattle.music_setup.specs.declared.fault.SceneFault.{SceneFault}

@@ -1,5 +1,3 @@
-pub mod Limits
-pub mod Values
 pub mod Apps
 pub mod Faults
 pub mod Scenes

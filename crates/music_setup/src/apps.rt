@@ -2,12 +2,12 @@
 ghost use Rattle.std.specs.Prelude.{◌≡◌, ◌<◌, ◌≤◌, true, length, nat_le, All, IfOk, IfErr};
 ghost use Rattle.std.specs.Option.{option_copied};
 ghost use Rattle.config_text.specs.Pairs.{value_of};
-ghost use Rattle.port_table.specs.Ports.{most_ports, most_ranks};
-ghost use Rattle.app_scripts.specs.Rules.{names_differ};
-ghost use Rattle.port_match.specs.Links.{most_apps};
+ghost use Rattle.scene_model.specs.Limits.{most_ports, most_ranks, most_apps, most_steps};
+ghost use Rattle.scene_model.specs.Ports.{names_differ};
+ghost use Rattle.music_base.specs.Times.{greatest_time};
+ghost use Rattle.scene_model.specs.Faults.{AreApps};
 ghost use Rattle.music_setup.specs.Apps.{HasFewPorts, IsPace, app_in, apps_of, apps_until, pace_in, parts_in, ports_in, rules_in, stop_of};
 ghost use Rattle.music_setup.specs.Faults.{IsAppFault, IsSceneFault};
-ghost use Rattle.music_setup.specs.Limits.{most_steps};
 
 use crate::fault::AppFault;
 use crate::settings::{is_script, np_in, setting, stop_in, tick_in};
@@ -24,7 +24,7 @@ use std::alloc::Global;
 const MOST_STEPS: u64 = 1_000_000;
 
 /// The ports of an application of `np` processes.
-#[tactic(auto, using(crate::proofs::OfApps::ports_fault, crate::proofs::PortNames::ports_differ, crate::proofs::PortNames::ports_few))]
+#[tactic(auto, using(crate::proofs::OfApps::ports_fault))]
 fn ports_in(alloc: Global, np: u32, text: Option<&Word>) -> Result<Items<PortDecl>, AppFault>
     requires least { 1 ≤ np }
     requires most { np ≤ most_ranks }
@@ -151,6 +151,7 @@ fn apps_until(alloc: Global, config: &Config, stop: Nanos) -> Result<Items<AppDe
     ensures apps { IfOk result (λ apps. apps_until config.now stop ≡ Ok apps) }
     ensures few { IfOk result (λ apps. length apps ≤ most_apps) }
     ensures few_ports { IfOk result (All HasFewPorts) }
+    ensures lawful { IfOk result (AreApps stop) }
     ensures fault { IfErr result (IsSceneFault (apps_until config.now stop)) }
 {
     let mut apps = Items::new(alloc);
@@ -169,8 +170,10 @@ fn apps_until(alloc: Global, config: &Config, stop: Nanos) -> Result<Items<AppDe
 }
 
 /// The stop, which stands among the defaults.
+#[tactic(auto, using(crate::proofs::Faultless::stop_early))]
 fn stop_of(alloc: Global, config: &Config) -> Result<Nanos, SetupFault>
     ensures stop { IfOk result (λ stop. stop_of config.now ≡ Ok stop) }
+    ensures early { IfOk result (λ stop. stop ≤ greatest_time) }
     ensures fault { IfErr result (IsSceneFault (stop_of config.now)) }
 {
     let name = Name::from_slice(alloc, b"stoptime")?;
@@ -186,6 +189,8 @@ pub fn read_apps(alloc: Global, config: &Config) -> Result<(Nanos, Items<AppDecl
     ensures apps { IfOk result (λ read. apps_of config.now ≡ Ok (read.0, read.1)) }
     ensures few { IfOk result (λ read. length read.1 ≤ most_apps) }
     ensures few_ports { IfOk result (λ read. All HasFewPorts read.1) }
+    ensures early { IfOk result (λ read. read.0 ≤ greatest_time) }
+    ensures lawful { IfOk result (λ read. AreApps read.0 read.1) }
     ensures fault { IfErr result (IsSceneFault (apps_of config.now)) }
 {
     let stop = stop_of(alloc, config)?;

@@ -1,5 +1,6 @@
 //! The scene that a configuration describes.
 ghost use Rattle.std.specs.Prelude.{◌≡◌, IfOk, IfErr};
+ghost use Rattle.scene_model.specs.Faults.{IsFaultless};
 ghost use Rattle.music_setup.specs.Faults.{IsSetupFault};
 ghost use Rattle.music_setup.specs.Scenes.{scene_of};
 
@@ -25,6 +26,7 @@ use std::alloc::Global;
 pub fn read_scene(alloc: Global, config: &Config) -> Result<Scene, SetupFault>
     ensures scene { IfOk result (λ scene. scene_of config.now ≡ Ok scene) }
     ensures fault { IfErr result (IsSetupFault (scene_of config.now)) }
+    ensures faultless { IfOk result (λ scene. IsFaultless scene) }
 {
     let (stop, apps) = read_apps(alloc, config)?;
     let links = match_links(alloc, apps.as_slice(), config.links.as_slice())?;

@@ -6,7 +6,7 @@ ghost use Rattle.music_base.specs.Names.{is_name};
 ghost use Rattle.music_base.specs.Times.{time_value};
 ghost use Rattle.config_text.specs.Lookup.{looked_up};
 ghost use Rattle.config_text.specs.Pairs.{value_of};
-ghost use Rattle.port_table.specs.Ports.{most_ranks};
+ghost use Rattle.scene_model.specs.Limits.{most_ranks};
 ghost use Rattle.music_setup.specs.Apps.{is_script, np_in, stop_in, tick_in, time_or_none};
 
 use crate::SceneFault;

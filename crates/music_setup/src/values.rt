@@ -3,8 +3,8 @@ ghost use Rattle.std.specs.Prelude.{◌≡◌, ◌*◌, ◌≤◌, ◌<◌, ◌^
 ghost use Rattle.music_base.specs.Clocks.{steps_until};
 ghost use Rattle.index_maps.specs.Maps.{globals};
 ghost use Rattle.index_maps.specs.declared.map.PortMap.TheVariants.{Each, Split};
-ghost use Rattle.music_setup.specs.Limits.{most_steps, most_values};
-ghost use Rattle.music_setup.specs.Values.{indices_mapped, values_by, values_in_step};
+ghost use Rattle.scene_model.specs.Limits.{most_steps, most_values};
+ghost use Rattle.scene_model.specs.Values.{indices_mapped, values_by, values_in_step};
 
 use index_maps::{IndexMap, PortMap};
 use music_base::Rank;
@@ -25,7 +25,7 @@ fn size_of(map: &IndexMap) -> u32
 }
 
 /// How many indices the ranks map, or `u64::MAX` where that is less.
-#[tactic(auto, unfolding(crate::specs::Values::indices_mapped))]
+#[tactic(auto, unfolding(scene_model::specs::Values::indices_mapped))]
 fn indices_mapped(map: &PortMap) -> u64
     ensures { result ≡ min (indices_mapped map.now) u64.MAX }
 {
@@ -56,7 +56,7 @@ fn values_by(port: &PortDecl) -> u64
 }
 
 /// How many values all ports have in each step, or `u64::MAX` where that is less.
-#[tactic(auto, unfolding(crate::specs::Values::values_in_step))]
+#[tactic(auto, unfolding(scene_model::specs::Values::values_in_step))]
 fn values_in_step(ports: &[PortDecl]) -> u64
     ensures { result ≡ min (values_in_step ports.now) u64.MAX }
 {

@@ -1,6 +1,6 @@
 //! Declarations of ports, and index maps, where there is enough memory.
 ghost use Rattle.std.specs.Prelude.{◌≤◌};
-ghost use Rattle.port_table.specs.Ports.{most_ranks};
+ghost use Rattle.scene_model.specs.Limits.{most_ranks};
 
 use index_maps::{IndexMap, Interval, MapFault, permutation};
 use music_base::{Items, Nanos, NoMemory, Word};

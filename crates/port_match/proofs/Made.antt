@@ -1,14 +1,17 @@
 -- Links that connections make have their ends, and no fault.
-use Rattle.std.proofs.Common.{◌≡◌, ℕ, ◌<◌, Bool, true, false, List, [], ◌∷◌, ◌++◌, length, refl, ap, ◌∙◌, arith}
-use Rattle.std.specs.Prelude.{Option, Some, None, Result, Ok, Err, not, ◌&&◌, ◌||◌, if◌then◌else◌, bytes_eq, map}
+use Rattle.std.proofs.Common.{◌≡◌, ℕ, ◌<◌, Bool, true, false, List, [], ◌∷◌, ◌++◌, length, refl, sym, ap, ◌∙◌, arith}
+use Rattle.std.specs.Prelude.{Option, Some, None, Result, Ok, Err, not, ◌&&◌, if◌then◌else◌, bytes_eq, map}
 use Rattle.std.specs.List.{list_all, list_any}
 use Rattle.std.proofs.lemmas.Bool.{and_parts, lt-ltb}
 use Rattle.std.proofs.lemmas.Bool.Decides.{nat_tests}
-use Rattle.std.proofs.lemmas.List.Folds.{list_all-append, list_any-append}
+use Rattle.std.proofs.lemmas.List.{length-map, map-id}
+use Rattle.std.proofs.lemmas.List.Folds.{list_all-append}
 use Rattle.std.proofs.lemmas.List.Quantifiers.{position-Some}
 use Rattle.std.proofs.lemmas.Slice.Eq.{bytes_eq-Decides}
-use Rattle.music_base.specs.Numbers.{all_differ}
+use Rattle.music_base.specs.Names.{is_name}
+use Rattle.music_base.proofs.Lists.{all_differ-push}
 use Rattle.text_words.specs.InTurn.{◌>>=◌, some_or, unless, faults_as}
+use Rattle.config_text.specs.Connections.{is_link}
 use Rattle.config_text.specs.declared.link_text.LinkText.{LinkText}
 use Rattle.scene_model.specs.Scenes.{no_app, no_port}
 use Rattle.scene_model.specs.declared.port.PortDecl.{PortDecl}
@@ -16,12 +19,13 @@ use Rattle.scene_model.specs.declared.port.PortKind.{PortKind}
 use Rattle.scene_model.specs.declared.port.PortKind.TheVariants.{Events, Values, Messages}
 use Rattle.scene_model.specs.declared.scene.AppDecl.{AppDecl}
 use Rattle.scene_model.specs.declared.scene.Link.{Link}
-use Rattle.port_match.specs.Fitting.{directions_fit, kinds_fit, width_fits, values_fit}
-use Rattle.port_match.specs.Links.{app_of, app_place, ends_of, fault_after, fault_between, has_ends, input_of, is_fed_by, link_after, link_at_place, links_of, output_of, port_of, port_place, same_ends, same_input}
-use Rattle.port_match.specs.Made.{feeds_again, has_values, is_continuous, is_directed, is_of_one_kind, is_within_width, named}
+use Rattle.scene_model.specs.Links.{AreLinks, app_of, directions_fit, feeds_again, has_ends, has_values, input_of, is_continuous, is_directed, is_of_one_kind, is_width, is_within_width, output_of, port_of, same_ends, same_input, values_fit, width_fits}
+use Rattle.scene_model.specs.Ports.{same_kind}
+use Rattle.port_match.specs.Links.{app_place, ends_of, fault_after, fault_between, is_fed_by, link_after, link_at_place, links_of, port_place}
+use Rattle.port_match.specs.Made.{named}
 use Rattle.port_match.specs.declared.fault.LinkKind.{LinkKind}
 use Rattle.port_match.specs.declared.fault.LinkKind.TheVariants.{UnknownApp, UnknownPort, Direction, Kind, Width, Unmapped, PairTwice, ContTwice}
-use Rattle.port_match.proofs.Turns.{in_turn-keeps, in_turn-back}
+use Rattle.text_words.proofs.Turns.{in_turn-keeps, in_turn-map}
 
 -- ---- the ends that were found
 
@@ -147,7 +151,7 @@ passed true false c d e f none = absurd cc
 passed false b c d e f none = absurd cc
 
 passed_between : (output input : PortDecl) (before : List Link) (link : Link) → fault_between output input before link ≡ None
-    → Passed (directions_fit output.direction input.direction) (kinds_fit output.kind input.kind) (width_fits link.width output input) (values_fit input.kind output input) (list_any (same_ends link) before) (is_fed_by input.kind before link)
+    → Passed (directions_fit output.direction input.direction) (same_kind output.kind input.kind) (width_fits link.width output input) (values_fit input.kind output input) (list_any (same_ends link) before) (is_fed_by input.kind before link)
 unfolding fault_between
 passed_between output input before link none = passed _ _ _ _ _ _ none
 
@@ -160,21 +164,6 @@ any_agree p q same (x ∷ xs) = rw (same x, any_agree p q same xs) refl
 any_false : {X : Type 0} (xs : List X) → list_any (λ x. false) xs ≡ false
 any_false [] = refl
 any_false (x ∷ xs) = any_false xs
-
-not_true : (b : Bool) → not b ≡ true → b ≡ false
-not_true true is = absurd cc
-not_true false is = refl
-
-neither : (a b : Bool) → (a || b) ≡ false → (a ≡ false) × (b ≡ false)
-neither true b is = absurd cc
-neither false b is = (refl, is)
-
-one_differs : {X : Type 0} (eq : X → X → Bool) (xs : List X) (y : X) → all_differ eq xs ≡ true → list_any (λ x. eq x y) xs ≡ false → all_differ eq (xs ++ y ∷ []) ≡ true
-one_differs eq [] y differ none = refl
-one_differs eq (x ∷ xs) y differ none =
-    let front = and_parts (not (list_any (eq x) xs)) (all_differ eq xs) differ in
-    let apart = neither (eq x y) (list_any (λ z. eq z y) xs) none in
-    rw (list_any-append (eq x) xs (y ∷ []), not_true (list_any (eq x) xs) front.0, apart.0) (one_differs eq xs y front.1 apart.1)
 
 same_input_back : (link other : Link) → same_input link other ≡ same_input other link
 same_input_back link other = grind (arith, nat_tests)
@@ -189,20 +178,11 @@ not_fed_again Messages before link none = any_false before
 
 -- ---- all links
 
-pub record AreMade (apps : List AppDecl) (links : List Link) : Type 0 where
-  pub with_ends : list_all (has_ends apps) links ≡ true
-  pub directed : list_all (is_directed apps) links ≡ true
-  pub of_one_kind : list_all (is_of_one_kind apps) links ≡ true
-  pub within_width : list_all (is_within_width apps) links ≡ true
-  pub with_values : list_all (has_values apps) links ≡ true
-  pub pairs_once : all_differ same_ends links ≡ true
-  pub continuous_once : all_differ (feeds_again apps) links ≡ true
-
 one_more : {X : Type 0} (p : X → Bool) (xs : List X) (x : X) → list_all p xs ≡ true → p x ≡ true → list_all p (xs ++ x ∷ []) ≡ true
 one_more p xs x all is = rw (list_all-append p xs (x ∷ []), all, is) refl
 
 -- each link that is made stands with those before it
-kept : (apps : List AppDecl) (before : List Link) (text : LinkText) (link : Link) → AreMade apps before → link_at_place apps before text ≡ Ok link → AreMade apps (before ++ link ∷ [])
+kept : (apps : List AppDecl) (before : List Link) (text : LinkText) (link : Link) → AreLinks apps before → link_at_place apps before text ≡ Ok link → AreLinks apps (before ++ link ∷ [])
 kept apps before text link so_far gave =
     let made = is_made apps before text link gave in
     let pass = passed_between (output_of apps link) (input_of apps link) before link made.no_fault in
@@ -212,15 +192,42 @@ kept apps before text link so_far gave =
       of_one_kind = one_more (is_of_one_kind apps) before link so_far.of_one_kind pass.of_one_kind;
       within_width = one_more (is_within_width apps) before link so_far.within_width pass.within_width;
       with_values = one_more (has_values apps) before link so_far.with_values pass.with_values;
-      pairs_once = one_differs same_ends before link so_far.pairs_once (any_agree (λ other. same_ends other link) (same_ends link) (λ other. same_ends_back other link) before ∙ pass.not_joined);
-      continuous_once = one_differs (feeds_again apps) before link so_far.continuous_once (not_fed_again (input_of apps link).kind before link pass.not_fed);
+      pairs_once = all_differ-push same_ends before link so_far.pairs_once (any_agree (λ other. same_ends other link) (same_ends link) (λ other. same_ends_back other link) before ∙ pass.not_joined);
+      continuous_once = all_differ-push (feeds_again apps) before link so_far.continuous_once (not_fed_again (input_of apps link).kind before link pass.not_fed);
     }
 
-pub links_of-made : (apps : List AppDecl) (texts : List LinkText) (links : List Link) → links_of apps texts ≡ Ok links → AreMade apps links
-links_of-made apps texts links gave =
-    in_turn-keeps (link_at_place apps) (AreMade apps) (kept apps) texts [] links
+pub links_of-are : (apps : List AppDecl) (texts : List LinkText) (links : List Link) → links_of apps texts ≡ Ok links → AreLinks apps links
+links_of-are apps texts links gave =
+    in_turn-keeps (link_at_place apps) (AreLinks apps) (kept apps) texts [] links
     (record { with_ends = refl; directed = refl; of_one_kind = refl; within_width = refl; with_values = refl; pairs_once = refl; continuous_once = refl }) gave
 
 pub links_of-named : (apps : List AppDecl) (texts : List LinkText) (links : List Link) → links_of apps texts ≡ Ok links → map (named apps) links ≡ texts
 links_of-named apps texts links gave =
-    in_turn-back (link_at_place apps) (named apps) (λ before text link is. ends_named apps text link (is_made apps before text link is).joins_them) texts [] links gave
+    in_turn-map (link_at_place apps) (named apps) (λ text. text) (λ before text link is. ends_named apps text link (is_made apps before text link is).joins_them) texts [] links gave
+    ∙ map-id texts
+
+-- one for each connection
+pub links_of-many : (apps : List AppDecl) (texts : List LinkText) (links : List Link) → links_of apps texts ≡ Ok links → length links ≡ length texts
+links_of-many apps texts links gave = sym (length-map links (named apps)) ∙ ap (λ (made : List LinkText). length made) (links_of-named apps texts links gave)
+
+-- ---- widths
+
+fifth : (a b c d e : Bool) → (a && b && c && d && e) ≡ true → e ≡ true
+fifth true true true true e is = is
+fifth true true true false e is = absurd cc
+fifth true true false d e is = absurd cc
+fifth true false c d e is = absurd cc
+fifth false b c d e is = absurd cc
+
+-- a width that a connection can state is one that a link can have
+widths_named : (apps : List AppDecl) (links : List Link) → list_all is_link (map (named apps) links) ≡ true → list_all (λ (link : Link). is_width link.width) links ≡ true
+unfolding named
+widths_named apps [] lawful = refl
+widths_named apps (link ∷ links) lawful =
+    let text : LinkText = named apps link in
+    let front = and_parts (is_link text) (list_all is_link (map (named apps) links)) lawful in
+    let width : is_width link.width ≡ true = fifth (is_name text.from_app) (is_name text.from_port) (is_name text.to_app) (is_name text.to_port) (is_width link.width) front.0 in
+    rw width (widths_named apps links front.1)
+
+pub links_of-widths : (apps : List AppDecl) (texts : List LinkText) (links : List Link) → links_of apps texts ≡ Ok links → list_all is_link texts ≡ true → list_all (λ (link : Link). is_width link.width) links ≡ true
+links_of-widths apps texts links gave lawful = widths_named apps links (ap (list_all is_link) (links_of-named apps texts links gave) ∙ lawful)

@@ -2,7 +2,7 @@
 use Rattle.std.specs.Prelude.{ℕ, Bool, false, not, ◌&&◌, nat_lt, nat_le, if◌then◌else◌, List, [], ◌∷◌, Option, Some, None}
 use Rattle.index_maps.specs.declared.interval.Interval.{Interval}
 use Rattle.scene_model.specs.declared.port.PortDecl.{PortDecl}
-use Rattle.port_match.specs.Fitting.{width_fits, values_fit}
+use Rattle.scene_model.specs.Links.{width_fits, values_fit}
 use Rattle.port_match.specs.declared.fault.LinkKind.{LinkKind}
 use Rattle.port_match.specs.declared.fault.LinkKind.TheVariants.{Width, Unmapped}
 

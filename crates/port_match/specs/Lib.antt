@@ -1,5 +1,4 @@
 pub mod Covering
-pub mod Fitting
 pub mod Links
 pub mod Made
 pub mod SmallScenes

@@ -1,29 +1,19 @@
 -- The links that the connections of a text make, or the fault of the first faulty one.
-use Rattle.std.specs.Prelude.{◌≡◌, ⊤, ℕ, Bool, false, not, ◌&&◌, ◌==◌, nat_lt, if◌then◌else◌, List, [], length, slice_index_or, bytes_eq, Option, Some, None, Result, Ok, Err}
+use Rattle.std.specs.Prelude.{◌≡◌, ⊤, ℕ, Bool, false, not, if◌then◌else◌, List, [], length, bytes_eq, Option, Some, None, Result, Ok, Err}
 use Rattle.std.specs.List.{list_any, position}
 use Rattle.text_words.specs.InTurn.{◌>>=◌, some_or, unless, faults_as, in_turn}
 use Rattle.config_text.specs.declared.link_text.LinkText.{LinkText}
-use Rattle.scene_model.specs.Scenes.{no_app, no_port}
+use Rattle.scene_model.specs.Links.{app_of, output_of, input_of, directions_fit, width_fits, values_fit, same_input, same_ends}
+use Rattle.scene_model.specs.Ports.{same_kind}
 use Rattle.scene_model.specs.declared.port.PortDecl.{PortDecl}
 use Rattle.scene_model.specs.declared.port.PortKind.{PortKind}
 use Rattle.scene_model.specs.declared.port.PortKind.TheVariants.{Values}
 use Rattle.scene_model.specs.declared.scene.AppDecl.{AppDecl}
 use Rattle.scene_model.specs.declared.scene.Link.{Link}
-use Rattle.port_match.specs.Fitting.{directions_fit, kinds_fit, width_fits, values_fit}
 use Rattle.port_match.specs.declared.fault.LinkKind.{LinkKind}
 use Rattle.port_match.specs.declared.fault.LinkKind.TheVariants.{UnknownApp, UnknownPort, Direction, Kind, Width, Unmapped, PairTwice, ContTwice}
 use Rattle.port_match.specs.declared.fault.MatchFault.{MatchFault}
 use Rattle.port_match.specs.declared.fault.MatchFault.TheVariants as faults
-
--- how many applications and connections a scene has at most, and an application ports
-abbrev pub most_apps : ℕ
-most_apps = 32
-
-abbrev pub most_links : ℕ
-most_links = 64
-
-abbrev pub most_ports : ℕ
-most_ports = 64
 
 -- ---- places
 
@@ -34,29 +24,6 @@ app_place apps name = position (λ (app : AppDecl). bytes_eq app.name name) apps
 -- the place of the port of a name
 abbrev pub port_place : AppDecl → List ℕ → Option ℕ
 port_place app name = position (λ (port : PortDecl). bytes_eq port.name name) app.ports
-
--- application a
-abbrev pub app_of : List AppDecl → ℕ → AppDecl
-app_of apps a = slice_index_or apps a no_app
-
--- port p of an application
-abbrev pub port_of : AppDecl → ℕ → PortDecl
-port_of app p = slice_index_or app.ports p no_port
-
--- the port that a link begins at, and the one that it leads to
-unfoldable pub output_of : List AppDecl → Link → PortDecl
-output_of apps link = port_of (app_of apps link.from_app) link.from_port
-
-unfoldable pub input_of : List AppDecl → Link → PortDecl
-input_of apps link = port_of (app_of apps link.to_app) link.to_port
-
--- an application and a port of it stand at these places
-abbrev pub has_end : List AppDecl → ℕ → ℕ → Bool
-has_end apps a p = nat_lt a (length apps) && nat_lt p (length (app_of apps a).ports)
-
--- both ends of a link stand
-unfoldable pub has_ends : List AppDecl → Link → Bool
-has_ends apps link = has_end apps link.from_app link.from_port && has_end apps link.to_app link.to_port
 
 -- ---- the ends that a connection names
 
@@ -71,14 +38,6 @@ ends_of apps text = do
 
 -- ---- earlier links
 
--- both lead to the same port
-abbrev pub same_input : Link → Link → Bool
-same_input link other = (link.to_app == other.to_app) && (link.to_port == other.to_port)
-
--- both join the same two ports
-abbrev pub same_ends : Link → Link → Bool
-same_ends link other = (link.from_app == other.from_app) && (link.from_port == other.from_port) && same_input link other
-
 -- many links may lead to an event or a message input, and one to a continuous one
 abbrev pub is_fed_by : PortKind → List Link → Link → Bool
 is_fed_by Values before link = list_any (same_input link) before
@@ -90,7 +49,7 @@ is_fed_by _ before link = false
 unfoldable pub fault_between : PortDecl → PortDecl → List Link → Link → Option LinkKind
 fault_between output input before link =
     if not (directions_fit output.direction input.direction) then Some Direction
-    else if not (kinds_fit output.kind input.kind) then Some Kind
+    else if not (same_kind output.kind input.kind) then Some Kind
     else if not (width_fits link.width output input) then Some Width
     else if not (values_fit input.kind output input) then Some Unmapped
     else if list_any (same_ends link) before then Some PairTwice

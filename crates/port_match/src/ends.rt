@@ -1,7 +1,9 @@
 //! The ends of a connection: applications and ports by their names.
 ghost use Rattle.std.specs.Prelude.{◌≡◌, ◌≤◌, ◌<◌, ℕ, true, length, IfSome, IfOk};
 ghost use Rattle.std.specs.List.{list_any};
-ghost use Rattle.port_match.specs.Links.{app_of, app_place, ends_of, has_end, has_ends, input_of, most_apps, most_ports, output_of, port_of, port_place, same_ends, same_input};
+ghost use Rattle.scene_model.specs.Limits.{most_apps, most_ports};
+ghost use Rattle.scene_model.specs.Links.{app_of, has_end, has_ends, input_of, output_of, port_of, same_ends, same_input};
+ghost use Rattle.port_match.specs.Links.{app_place, ends_of, port_place};
 
 use crate::LinkKind;
 use config_text::LinkText;
@@ -50,7 +52,7 @@ fn port_at(apps: &[AppDecl], a: AppId, p: PortId) -> &PortDecl
 }
 
 /// The port that the link begins at.
-#[tactic(auto, unfolding(crate::specs::Links::output_of, crate::specs::Links::has_ends))]
+#[tactic(auto, unfolding(scene_model::specs::Links::output_of, scene_model::specs::Links::has_ends))]
 pub fn output_of<'a>(apps: &'a [AppDecl], link: &Link) -> &'a PortDecl
     requires { has_ends apps.now link.now ≡ true }
     ensures { result.now ≡ output_of apps.now link.now }
@@ -59,7 +61,7 @@ pub fn output_of<'a>(apps: &'a [AppDecl], link: &Link) -> &'a PortDecl
 }
 
 /// The port that the link leads to.
-#[tactic(auto, unfolding(crate::specs::Links::input_of, crate::specs::Links::has_ends))]
+#[tactic(auto, unfolding(scene_model::specs::Links::input_of, scene_model::specs::Links::has_ends))]
 pub fn input_of<'a>(apps: &'a [AppDecl], link: &Link) -> &'a PortDecl
     requires { has_ends apps.now link.now ≡ true }
     ensures { result.now ≡ input_of apps.now link.now }
@@ -68,7 +70,7 @@ pub fn input_of<'a>(apps: &'a [AppDecl], link: &Link) -> &'a PortDecl
 }
 
 /// The link between the ports that the connection names.
-#[tactic(auto, unfolding(crate::specs::Links::ends_of, crate::specs::Links::has_ends))]
+#[tactic(auto, unfolding(crate::specs::Links::ends_of, scene_model::specs::Links::has_ends))]
 pub fn ends_of(apps: &[AppDecl], text: &LinkText) -> Result<Link, LinkKind>
     requires apps { length apps.now ≤ most_apps }
     requires ports { (a : ℕ) → a < length apps.now → length (app_of apps.now a).ports ≤ most_ports }

@@ -3,8 +3,8 @@ ghost use Rattle.std.specs.Prelude.{◌≡◌, true, IfOk};
 ghost use Rattle.std.specs.List.{flat_map};
 ghost use Rattle.index_maps.specs.Intervals.{are_apart, interval_indices};
 ghost use Rattle.index_maps.specs.Maps.{indices};
+ghost use Rattle.scene_model.specs.Links.{values_fit, width_fits};
 ghost use Rattle.port_match.specs.Covering.{index_fault};
-ghost use Rattle.port_match.specs.Fitting.{values_fit, width_fits};
 
 use crate::LinkKind;
 use crate::covering::{all_below, covers};
@@ -14,7 +14,7 @@ use scene_model::{PortDecl, PortKind};
 use std::alloc::Global;
 
 /// Whether neither port maps an index past the width, where one is stated. The intervals are those of the ports.
-#[tactic(auto, unfolding(crate::specs::Fitting::maps_below))]
+#[tactic(auto, unfolding(scene_model::specs::Links::maps_below))]
 fn width_fits(
     width: Option<u32>,
     output: &PortDecl,

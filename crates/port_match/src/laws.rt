@@ -1,14 +1,15 @@
 //! Laws over the definitions: what connections of a small scene make, and what stands of links that were made.
-ghost use Rattle.std.specs.Prelude.{◌≡◌, ℕ, true, List, [], ◌∷◌, codes, map, Some, Ok, Err};
+ghost use Rattle.std.specs.Prelude.{◌≡◌, ℕ, true, List, [], ◌∷◌, length, codes, map, Some, Ok, Err};
 ghost use Rattle.std.specs.List.{list_all};
-ghost use Rattle.music_base.specs.Numbers.{all_differ};
 ghost use Rattle.text_words.specs.InTurn.{IsFirst};
+ghost use Rattle.config_text.specs.Connections.{is_link};
 ghost use Rattle.config_text.specs.declared.link_text.LinkText.{LinkText};
+ghost use Rattle.scene_model.specs.Links.{AreLinks, is_width};
 ghost use Rattle.scene_model.specs.WorkedScenes.{link};
 ghost use Rattle.scene_model.specs.declared.scene.AppDecl.{AppDecl};
 ghost use Rattle.scene_model.specs.declared.scene.Link.{Link};
-ghost use Rattle.port_match.specs.Links.{has_ends, link_at_place, links_of, same_ends};
-ghost use Rattle.port_match.specs.Made.{feeds_again, has_values, is_directed, is_of_one_kind, is_within_width, named};
+ghost use Rattle.port_match.specs.Links.{link_at_place, links_of};
+ghost use Rattle.port_match.specs.Made.{named};
 ghost use Rattle.port_match.specs.SmallScenes.{few_many, joins, level_across, level_back, level_past, level_seen, matched, note_cmd, out_in, out_many, within};
 ghost use Rattle.port_match.specs.declared.fault.LinkKind.TheVariants.{UnknownApp, UnknownPort, Direction, Kind, Width, Unmapped, PairTwice, ContTwice};
 ghost use Rattle.port_match.specs.declared.fault.MatchFault.{MatchFault};
@@ -21,16 +22,13 @@ pub fn first_faults()
     ensures first_is_the_fault { (apps : List AppDecl) (texts : List LinkText) (i : ℕ) (before : List Link) (fault : MatchFault) → IsFirst (link_at_place apps) texts i before fault → links_of apps texts ≡ Err fault }
 {}
 
-/// The links that connections make have the ports that these name, one link for each, and none of the faults.
+/// The links that connections make are links of a scene without a fault: one for each connection, between the ports that
+/// it names, with the width that it states. What a connection of a text can state lies within the limits of widths.
 pub fn made_links_stand()
+    ensures stand { (apps : List AppDecl) (texts : List LinkText) (links : List Link) → links_of apps texts ≡ Ok links → AreLinks apps links }
     ensures as_named { (apps : List AppDecl) (texts : List LinkText) (links : List Link) → links_of apps texts ≡ Ok links → map (named apps) links ≡ texts }
-    ensures with_ends { (apps : List AppDecl) (texts : List LinkText) (links : List Link) → links_of apps texts ≡ Ok links → list_all (has_ends apps) links ≡ true }
-    ensures directed { (apps : List AppDecl) (texts : List LinkText) (links : List Link) → links_of apps texts ≡ Ok links → list_all (is_directed apps) links ≡ true }
-    ensures of_one_kind { (apps : List AppDecl) (texts : List LinkText) (links : List Link) → links_of apps texts ≡ Ok links → list_all (is_of_one_kind apps) links ≡ true }
-    ensures within_width { (apps : List AppDecl) (texts : List LinkText) (links : List Link) → links_of apps texts ≡ Ok links → list_all (is_within_width apps) links ≡ true }
-    ensures with_values { (apps : List AppDecl) (texts : List LinkText) (links : List Link) → links_of apps texts ≡ Ok links → list_all (has_values apps) links ≡ true }
-    ensures pairs_once { (apps : List AppDecl) (texts : List LinkText) (links : List Link) → links_of apps texts ≡ Ok links → all_differ same_ends links ≡ true }
-    ensures continuous_once { (apps : List AppDecl) (texts : List LinkText) (links : List Link) → links_of apps texts ≡ Ok links → all_differ (feeds_again apps) links ≡ true }
+    ensures as_many { (apps : List AppDecl) (texts : List LinkText) (links : List Link) → links_of apps texts ≡ Ok links → length links ≡ length texts }
+    ensures widths { (apps : List AppDecl) (texts : List LinkText) (links : List Link) → links_of apps texts ≡ Ok links → list_all is_link texts ≡ true → list_all (λ (link : Link). is_width link.width) links ≡ true }
 {}
 
 /// What connections make in a small scene: lawful ones, a fault of each kind, and the first of two.

@@ -5,8 +5,9 @@ use Rattle.music_base.specs.Names.{is_name}
 use Rattle.text_words.specs.Options.{◌>>=◌, ◌when◌}
 use Rattle.text_words.specs.Words.{declarations}
 use Rattle.text_words.specs.InTurn.{in_turn, unless}
-use Rattle.index_maps.specs.Intervals.{first_shared}
 use Rattle.index_maps.specs.declared.map.PortMap.{PortMap}
+use Rattle.scene_model.specs.Limits.{most_ports}
+use Rattle.scene_model.specs.Ports.{message_map, output_twice}
 use Rattle.scene_model.specs.declared.port.Direction.{Direction}
 use Rattle.scene_model.specs.declared.port.Direction.TheVariants.{Output, Input}
 use Rattle.scene_model.specs.declared.port.PortKind.{PortKind}
@@ -15,16 +16,8 @@ use Rattle.scene_model.specs.declared.port.PortDecl.{PortDecl}
 use Rattle.port_table.specs.declared.fault.PortFault.{PortFault}
 use Rattle.port_table.specs.declared.fault.PortFault.TheVariants.{PortText, MapRepeated, OutputTwice, Memory}
 use Rattle.port_table.specs.declared.options.Options.{Options}
-use Rattle.port_table.specs.MapWords.{map_in, message_map, map_repeat}
+use Rattle.port_table.specs.MapWords.{map_in, map_repeat}
 use Rattle.port_table.specs.Options.{options_in, no_options}
-
--- how many ports an application has at most
-abbrev pub most_ports : ℕ
-most_ports = 64
-
--- how many ranks it has at most
-abbrev pub most_ranks : ℕ
-most_ranks = 64
 
 -- ---- the form of one declaration
 
@@ -75,11 +68,6 @@ port_in np _ = None
 -- an earlier declaration has the name, or there are as many as an application may have
 abbrev pub is_beyond : List PortDecl → List ℕ → Bool
 is_beyond before name = nat_le most_ports (length before) || list_any (λ (port : PortDecl). bytes_eq port.name name) before
-
--- the least index that two ranks of an output map; an input may map an index at many ranks
-abbrev pub output_twice : Direction → PortMap → Option ℕ
-output_twice Output map = first_shared map
-output_twice Input map = None
 
 abbrev pub map_fault : ℕ → Option ℕ → Option ℕ → Option PortFault
 map_fault place (Some index) _ = Some (MapRepeated place index)

@@ -1,7 +1,8 @@
 //! What the definitions say.
-ghost use Rattle.std.specs.Prelude.{◌≡◌, ℕ, [], ◌∷◌, List, Some, false, Ok, Err, codes};
+ghost use Rattle.std.specs.Prelude.{◌≡◌, ◌≤◌, ℕ, [], ◌∷◌, List, Some, false, Ok, Err, codes};
 ghost use Rattle.text_words.specs.InTurn.{IsFirst};
 ghost use Rattle.text_words.specs.Words.{declarations};
+ghost use Rattle.scene_model.specs.Ports.{ArePorts};
 ghost use Rattle.scene_model.specs.declared.port.PortDecl.{PortDecl};
 ghost use Rattle.port_table.specs.declared.fault.PortFault.{PortFault};
 ghost use Rattle.port_table.specs.declared.fault.PortFault.TheVariants.{PortText, MapRepeated, OutputTwice};
@@ -13,6 +14,12 @@ ghost use Rattle.port_table.specs.SmallTexts.{half_empty, input_d, input_in, inp
 pub fn first_faults()
     ensures one_is_first { (np : ℕ) (text : List ℕ) (fault : PortFault) → ports_of np text ≡ Err fault → (i : ℕ) × (before : List PortDecl) × IsFirst (port_beside np) (declarations text) i before fault }
     ensures first_is_the_fault { (np : ℕ) (text : List ℕ) (i : ℕ) (before : List PortDecl) (fault : PortFault) → IsFirst (port_beside np) (declarations text) i before fault → ports_of np text ≡ Err fault }
+{}
+
+/// The ports that a text declares for so many processes are ports of a scene without a fault: there are not too many,
+/// their names differ, each has a map for each rank, and its numbers lie within their limits.
+pub fn read_ports_stand()
+    ensures { (np : ℕ) (text : List ℕ) (ports : List PortDecl) → 1 ≤ np → ports_of np text ≡ Ok ports → ArePorts np ports }
 {}
 
 /// What small texts declare.

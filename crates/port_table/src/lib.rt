@@ -10,5 +10,5 @@ mod port_text;
 mod reading;
 
 pub use fault::PortFault;
-pub use laws::{first_faults, small_texts};
+pub use laws::{first_faults, read_ports_stand, small_texts};
 pub use reading::read_ports;

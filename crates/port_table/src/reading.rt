@@ -3,8 +3,10 @@ ghost use Rattle.std.specs.List.{list_any};
 ghost use Rattle.music_base.specs.Names.{is_name};
 ghost use Rattle.index_maps.specs.Repeats.{IsRepeatOf};
 ghost use Rattle.text_words.specs.Words.{words};
-ghost use Rattle.port_table.specs.MapWords.{map_in, map_repeat, message_map};
-ghost use Rattle.port_table.specs.Ports.{IsFaultOf, fault_beside, is_beyond, most_ports, most_ranks, output_twice, port_beside, port_in, port_with, ports_of};
+ghost use Rattle.scene_model.specs.Limits.{most_ports, most_ranks};
+ghost use Rattle.scene_model.specs.Ports.{message_map, names_differ, output_twice};
+ghost use Rattle.port_table.specs.MapWords.{map_in, map_repeat};
+ghost use Rattle.port_table.specs.Ports.{IsFaultOf, fault_beside, is_beyond, port_beside, port_in, port_with, ports_of};
 ghost use Rattle.port_table.specs.Seen.{IsThatFault, fault_of_map, seen, seen_map};
 
 use crate::PortFault;
@@ -128,11 +130,14 @@ fn read_port(
 /// `split:B+N`, or for each rank `B+N` or a list of indices joined by commas, the ranks joined by `/`. The first
 /// declaration that is faulty is the fault, by its place from 1: `PortText` where it has not this form, has the name of
 /// an earlier one or is the 65th, then `MapRepeated`, then `OutputTwice`.
+#[tactic(auto, using(crate::proofs::LawfulPorts::ports_differ))]
 pub fn read_ports(alloc: Global, text: &Word, np: u32) -> Result<Items<PortDecl>, PortFault>
     requires least { 1 ≤ np }
     requires most { np ≤ most_ranks }
     ensures ports { IfOk result (λ ports. ports_of np text.now ≡ Ok ports) }
     ensures fault { IfErr result (IsFaultOf (ports_of np text.now)) }
+    ensures few { IfOk result (λ ports. length ports ≤ most_ports) }
+    ensures differ { IfOk result (λ ports. names_differ ports ≡ true) }
 {
     let mut ports = Items::new(alloc);
     let mut rest = text.as_slice();

@@ -1,2 +1,4 @@
+pub mod Faultless
 pub mod Places
 pub mod Times
+pub mod WorkedFaultless

@@ -5,7 +5,16 @@ pub mod Tables
 pub mod Turns
 pub mod Lives
 pub mod Logs
+pub mod Limits
+pub mod Ports
+pub mod Spellable
+pub mod Rules
+pub mod Links
+pub mod Values
+pub mod Faults
+pub mod Connections
 pub mod WorkedScenes
 pub mod WorkedTurns
 pub mod WorkedRealistic
+pub mod WorkedFaults
 pub mod PeriodTimes

@@ -1,10 +1,11 @@
 //! Scenes, as plain data, and the model of what happens in one.
 //!
 //! The model stands in specs/: clocks, the table of what every application's steps put out, what a step of an input
-//! reads of it, the turn that an application's rules make of that, the one history of a scene, and its log. No buffer,
-//! route or worker stands in it. Whatever runs a scene is held to it.
+//! reads of it, the turn that an application's rules make of that, the one history of a scene, its log, and what a scene
+//! without a fault is. No buffer, route or worker stands in it. Whatever runs a scene is held to it.
 #![tactic(auto)]
 
+mod fault_laws;
 mod laws;
 mod port;
 mod row;
@@ -12,6 +13,7 @@ mod rule;
 mod scene;
 mod time_laws;
 
+pub use fault_laws::{faultless_by_place, worked_faults_show, worked_scenes_have_no_fault};
 pub use laws::{worked_events_hold, worked_log_holds, worked_turns_hold, worked_values_hold};
 pub use port::{Direction, PortDecl, PortKind};
 pub use row::{Row, RowItem};

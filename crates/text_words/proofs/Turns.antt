@@ -1,6 +1,7 @@
--- Reading in turn ends at the first fault.
-use Rattle.std.proofs.Common.{◌≡◌, ℕ, zero, suc, ◌+◌, List, [], ◌∷◌, ◌++◌, length, take, refl, sym, ap, ◌∙◌, arith, length-append}
+-- Reading in turn ends at the first fault, and keeps what each reading gives.
+use Rattle.std.proofs.Common.{◌≡◌, ℕ, zero, suc, ◌+◌, List, [], ◌∷◌, ◌++◌, length, take, map, refl, sym, ap, subst, ◌∙◌, arith, length-append, append_assoc, append-nil}
 use Rattle.std.specs.Prelude.{Result, Ok, Err, slice_get, IsSomeAnd}
+use Rattle.std.proofs.lemmas.List.{map-append}
 use Rattle.text_words.specs.InTurn.{in_turn, IsFirst}
 
 -- the same behind some that were read before
@@ -63,3 +64,36 @@ module _ {A B E : Type 0} (read : List B → A → Result B E) where
   -- a first faulty place ends the reading
   pub first_ends : (xs : List A) (i : ℕ) (ys : List B) (e : E) → IsFirst read xs i ys e → in_turn read [] xs ≡ Err e
   first_ends xs i ys e first = fails_behind xs [] ys i e first.gave first.faulty
+
+  -- ---- what was read
+
+  abbrev Gave : List B → Result (List B) E
+  Gave ys = Ok ys
+
+  module _ (holds : List B → Type 0) (kept : (before : List B) (x : A) (y : B) → holds before → read before x ≡ Ok y → holds (before ++ y ∷ [])) where
+    -- the next one is read
+    next : (before ys : List B) (x : A) (xs : List A) (r : Result B E) → holds before → read before x ≡ r
+        → ((y : B) → holds (before ++ y ∷ []) → in_turn read (before ++ y ∷ []) xs ≡ Ok ys → holds ys)
+        → in_turn read before (x ∷ xs) ≡ Ok ys → holds ys
+    next before ys x xs (Err e) so_far is on gave = let stops : Err e ≡ Gave ys = rw is at gave in absurd cc
+    next before ys x xs (Ok y) so_far is on gave = on y (kept before x y so_far is) (rw is at gave)
+
+    -- what holds of nothing, and goes on holding with each element that is read, holds of all
+    pub in_turn-keeps : (xs : List A) (before ys : List B) → holds before → in_turn read before xs ≡ Ok ys → holds ys
+    in_turn-keeps [] before ys so_far gave = let same : before ≡ ys = cc in subst holds same so_far
+    in_turn-keeps (x ∷ xs) before ys so_far gave =
+        next before ys x xs (read before x) so_far refl (λ y more. in_turn-keeps xs (before ++ y ∷ []) ys more) gave
+
+  -- where each element that is read is alike what it was read from, so are all
+  module _ {C : Type 0} (back : B → C) (front : A → C) (alike : (before : List B) (x : A) (y : B) → read before x ≡ Ok y → back y ≡ front x) where
+    -- the next one is read
+    next_alike : (before ys : List B) (x : A) (xs : List A) (r : Result B E) → read before x ≡ r
+        → ((y : B) → in_turn read (before ++ y ∷ []) xs ≡ Ok ys → map back ys ≡ map back (before ++ y ∷ []) ++ map front xs)
+        → in_turn read before (x ∷ xs) ≡ Ok ys → map back ys ≡ map back before ++ front x ∷ map front xs
+    next_alike before ys x xs (Err e) is on gave = let stops : Err e ≡ Gave ys = rw is at gave in absurd cc
+    next_alike before ys x xs (Ok y) is on gave =
+        on y (rw is at gave) ∙ rw (map-append back before (y ∷ []), alike before x y is) (append_assoc (map back before) (front x ∷ []) (map front xs))
+
+    pub in_turn-map : (xs : List A) (before ys : List B) → in_turn read before xs ≡ Ok ys → map back ys ≡ map back before ++ map front xs
+    in_turn-map [] before ys gave = let same : before ≡ ys = cc in rw same (sym (append-nil (map back ys)))
+    in_turn-map (x ∷ xs) before ys gave = next_alike before ys x xs (read before x) refl (λ y. in_turn-map xs (before ++ y ∷ []) ys) gave

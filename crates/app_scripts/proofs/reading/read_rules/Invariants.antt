@@ -2,7 +2,8 @@
 use Rattle.std.proofs.Common.{◌≡◌, ◌≤◌, [], length}
 use Rattle.text_words.specs.InTurn.{in_turn}
 use Rattle.text_words.specs.Words.{declarations}
-use Rattle.app_scripts.specs.Rules.{most_rules, rule_beside}
+use Rattle.scene_model.specs.Limits.{most_rules}
+use Rattle.app_scripts.specs.Rules.{rule_beside}
 use Rattle.app_scripts.proofs.reading.read_rules.Given as goal
 
 abbrev pub invariant-loop-piece : goal.invariant-loop-piece

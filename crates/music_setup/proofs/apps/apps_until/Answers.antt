@@ -1,8 +1,10 @@
 -- Each section is read behind those before it.
-use Rattle.std.proofs.Common.{refl, sym, ◌∙◌}
-use Rattle.std.proofs.lemmas.List.{length-append}
+use Rattle.std.proofs.Common.{◌≡◌, ◌≤◌, drop, length, [], refl, sym, ◌∙◌, arith}
+use Rattle.std.specs.Prelude.{Ok}
+use Rattle.std.proofs.lemmas.List.{drop_all, length-append}
 use Rattle.std.proofs.lemmas.List.Elements.{All-push}
-use Rattle.music_setup.specs.Apps.{HasFewPorts}
+use Rattle.music_setup.specs.Apps.{HasFewPorts, apps_until}
+use Rattle.music_setup.proofs.Faultless.{apps_are}
 use Rattle.music_setup.proofs.Next.{next_app, next_fault}
 use Rattle.music_setup.proofs.apps.apps_until.Goals as goal
 
@@ -19,3 +21,10 @@ loop-place-preserved c =
       counted = rw (length-append, c.loop-place.invariant.counted) refl;
       few = All-push HasFewPorts c.loop-place.apps c.in-Ok.app c.loop-place.invariant.few c.in-Ok.ensures.few;
     })
+
+pub returns-clause-lawful : goal.returns-clause-lawful
+returns-clause-lawful c =
+    let past : length c.args.config.now.sections ≤ c.loop-place.place = omega (arith, c.len-place-end.ensures.len, c.loop-place-test.false) in
+    let none : drop c.loop-place.place c.args.config.now.sections ≡ [] = drop_all c.loop-place.place c.args.config.now.sections past in
+    let gave : apps_until c.args.config.now c.args.stop ≡ Ok c.loop-place.apps = sym (rw none at c.loop-place.invariant.read) in
+    apps_are c.args.config.now c.args.stop c.loop-place.apps c.len-place-end.ensures.lawful gave

@@ -3,7 +3,7 @@ use Rattle.std.proofs.Common.{◌≡◌, take}
 use Rattle.std.specs.List.{sum_by}
 use Rattle.std.specs.Io.Iter.{u64_saturate}
 use Rattle.scene_model.specs.declared.port.PortDecl.{PortDecl}
-use Rattle.music_setup.specs.Values.{values_by}
+use Rattle.scene_model.specs.Values.{values_by}
 use Rattle.music_setup.proofs.values.values_in_step.Given as goal
 
 abbrev pub invariant-loop-port : goal.invariant-loop-port

@@ -2,7 +2,7 @@ use Rattle.std.proofs.Common.{◌∙◌, ℕ, List, ap}
 use Rattle.std.specs.List.{list_all, list_any}
 use Rattle.index_maps.specs.Intervals.{holds}
 use Rattle.index_maps.specs.Maps.{indices}
-use Rattle.port_match.specs.Fitting.{covers}
+use Rattle.scene_model.specs.Links.{covers}
 use Rattle.port_match.proofs.Intervals.{all_maps_index}
 use Rattle.port_match.proofs.indices.values_fit.Goals as goal
 

@@ -1,7 +1,7 @@
 -- Each side computes.
 use Rattle.std.proofs.Common.{refl}
-use Rattle.port_match.specs.Fitting.{maps_below, covers}
-use Rattle.port_match.specs.Links.{output_of, input_of, ends_of, fault_between, link_after}
+use Rattle.scene_model.specs.Links.{maps_below, covers, output_of, input_of}
+use Rattle.port_match.specs.Links.{ends_of, fault_between, link_after}
 use Rattle.port_match.proofs.laws.small_scenes.Goals as goal
 
 pub returns : goal.returns

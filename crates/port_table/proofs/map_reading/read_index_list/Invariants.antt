@@ -6,7 +6,8 @@ use Rattle.text_words.specs.Parts.{parts_left}
 use Rattle.text_words.specs.Options.{each}
 use Rattle.text_words.specs.Counts.{count_up_to}
 use Rattle.index_maps.specs.declared.span.TheConstants.{INDEX_LIMIT}
-use Rattle.port_table.specs.MapWords.{index_list, comma, greatest_index}
+use Rattle.scene_model.specs.Limits.{greatest_index}
+use Rattle.port_table.specs.MapWords.{index_list, comma}
 use Rattle.port_table.proofs.map_reading.read_index_list.Given as goal
 
 abbrev pub invariant-loop-rest : goal.invariant-loop-rest

@@ -1,7 +1,8 @@
 use Rattle.std.proofs.Common.{◌≡◌, ◌≤◌, [], length}
 use Rattle.text_words.specs.InTurn.{in_turn}
 use Rattle.text_words.specs.Words.{declarations}
-use Rattle.port_table.specs.Ports.{most_ports, port_beside}
+use Rattle.scene_model.specs.Limits.{most_ports}
+use Rattle.port_table.specs.Ports.{port_beside}
 use Rattle.port_table.proofs.reading.read_ports.Given as goal
 
 abbrev pub invariant-loop-piece : goal.invariant-loop-piece

@@ -1,14 +1,10 @@
 -- The numbers and words that a rule of a text can have.
-use Rattle.std.specs.Prelude.{ℕ, ◌-◌, ◌^◌, Bool, ◌&&◌, nat_le, ℤ, unsigned_abs}
+use Rattle.std.specs.Prelude.{ℕ, Bool, ◌&&◌, nat_le, ℤ, unsigned_abs}
 use Rattle.music_base.specs.Names.{is_name, is_word}
 use Rattle.music_base.specs.Times.{greatest_time}
+use Rattle.scene_model.specs.Limits.{greatest_shift, greatest_numerator, greatest_denominator, greatest_index, greatest_value}
 use Rattle.scene_model.specs.declared.rule.Rule.{Rule}
 use Rattle.scene_model.specs.declared.rule.Rule.TheVariants.{EmitAt, EmitEvery, Pass, SetValue, Ramp, CopyValues, When, Say, Reply}
-use Rattle.app_scripts.specs.Forms.{greatest_shift, greatest_numerator, greatest_denominator, greatest_index}
-
--- how far from zero a value may lie, in millionths: twelve digits before the point and six behind it
-abbrev pub greatest_value : ℕ
-greatest_value = 10 ^ 18 - 1
 
 -- a global index
 abbrev pub is_index : ℕ → Bool

@@ -1,0 +1,7 @@
+use Rattle.music_setup.proofs.Faultless.{linked_is}
+use Rattle.music_setup.proofs.scenes.read_scene.Goals as goal
+
+pub returns-clause-faultless : goal.returns-clause-faultless
+returns-clause-faultless c =
+    linked_is c.in_ok-stop.stop c.in_ok-stop.apps c.args.config.now.links c.in_ok-links.links c.in_ok-stop.ensures.early c.in_ok-stop.ensures.lawful c.as_slice-2.ensures.lawful
+    (rw (c.as_slice-2.ensures.items, c.as_slice.ensures) at c.in_ok-links.ensures.links)
