@@ -1,4 +1,4 @@
--- The model of a scene: no buffer, route, potential or worker stands in it.
+-- The model of a scene: no buffer, route or worker stands in it.
 pub mod Scenes
 pub mod Clocks
 pub mod Tables
@@ -18,3 +18,9 @@ pub mod WorkedTurns
 pub mod WorkedRealistic
 pub mod WorkedFaults
 pub mod PeriodTimes
+pub mod Cover
+pub mod Waits
+pub mod WellFormed
+pub mod Orders
+pub mod WorkedWaits
+pub mod WorkedOrders

@@ -5,18 +5,35 @@
 //! without a fault is. No buffer, route or worker stands in it. Whatever runs a scene is held to it.
 #![tactic(auto)]
 
+mod act;
+mod clocks;
+mod cover_laws;
+mod ends;
 mod fault_laws;
 mod laws;
+mod order_laws;
 mod port;
 mod row;
 mod rule;
 mod scene;
 mod time_laws;
+mod wait;
+mod worked_orders;
 
+pub use act::Act;
+pub use clocks::{allowance_of, wanted_blocks};
+pub use cover_laws::passed_waits_are_covered;
 pub use fault_laws::{faultless_by_place, worked_faults_show, worked_scenes_have_no_fault};
 pub use laws::{worked_events_hold, worked_log_holds, worked_turns_hold, worked_values_hold};
+pub use order_laws::{
+    accepted_scenes_are_live, accepted_scenes_have_limits, acts_are_of_unfinished,
+    acts_keep_counts_sound, covered_waits_have_potentials, limits_are_one, live_scenes_can_finish,
+    plans_that_fit_are_live, plans_that_fit_leave_an_act,
+};
 pub use port::{Direction, PortDecl, PortKind};
 pub use row::{Row, RowItem};
 pub use rule::Rule;
 pub use scene::{AppDecl, Link, Scene};
 pub use time_laws::times_are_periods_apart;
+pub use wait::{Wait, WaitKind};
+pub use worked_orders::{worked_cycles_hold, worked_limits_hold, worked_order_holds};

@@ -1,0 +1,172 @@
+-- Cycles and limits of scenes that can be followed by hand.
+use Rattle.std.proofs.Common.{◌≡◌, ℕ, zero, suc, ◌<◌, ◌≤◌, refl, arith, List, [], ◌∷◌, ℤ, pos, None, Some}
+use Rattle.std.specs.Prelude.{Contains, ◌≤ℤ◌, neg_ℤ, IfSome}
+use Rattle.std.specs.List.{AllByRecursion}
+use Rattle.std.proofs.lemmas.Bool.Decides.{nat_tests}
+use Rattle.std.proofs.lemmas.Int.{ints}
+use Rattle.std.proofs.lemmas.List.Elements.{All-nil, All-cons, All-from_recursion}
+use Rattle.music_base.specs.Numbers.{gcd, floor_to}
+use Rattle.scene_model.specs.Clocks.{allowance, latency, delay, tick}
+use Rattle.scene_model.specs.Scenes.{sender, receiver}
+use Rattle.scene_model.specs.Cover.{AllCovered, HasUncovered, Passes, IsTold, allowances, burdens}
+use Rattle.scene_model.specs.Waits.{waits, stated, stated_limits, block_wait, room_wait, IsAccepted, IsLimit, AreLimits, Fits, greatest_limit, greatest_potential}
+use Rattle.scene_model.specs.WellFormed.{IsWellFormed}
+use Rattle.scene_model.specs.declared.wait.Wait.{Wait}
+use Rattle.scene_model.specs.WorkedOrders.{two_ways, pair, own_loop}
+use Rattle.scene_model.proofs.Cycles.{passed_are_covered}
+
+-- ---- cycles of one and of two waits
+
+told_one : (all : List Wait) (w : Wait) → w.awaited ≡ w.waiter → Contains all w → w.allowance ≤ℤ w.burden → IsTold all (w ∷ [])
+told_one all w round there low = record {
+  uncovered = record { cycle_of = record { closed = round; among = All-cons (Contains all) w [] there (All-nil (Contains all)) }; uncovered = omega (arith, ints) };
+  once = λ a. grind (arith, nat_tests);
+  least = All-nil (λ (v : Wait). w.waiter ≤ v.waiter);
+}
+
+told_two : (all : List Wait) (w v : Wait) → w.awaited ≡ v.waiter → v.awaited ≡ w.waiter → w.waiter < v.waiter → Contains all w → Contains all v
+    → allowances (w ∷ v ∷ []) ≤ℤ burdens (w ∷ v ∷ []) → IsTold all (w ∷ v ∷ [])
+told_two all w v there back less has_w has_v low = record {
+  uncovered = record {
+    cycle_of = record { closed = (meets, back); among = All-cons (Contains all) w (v ∷ []) has_w (All-cons (Contains all) v [] has_v (All-nil (Contains all))) };
+    uncovered = low;
+  };
+  once = λ a. grind (arith, nat_tests);
+  least = All-cons (λ (u : Wait). w.waiter ≤ u.waiter) v [] (omega arith) (All-nil (λ (u : Wait). w.waiter ≤ u.waiter));
+}
+  where
+    meets : v.waiter ≡ w.awaited
+    meets = cc
+
+-- ---- waits that pass
+
+covered_by : (n : ℕ) (potentials : List ℤ) (all : List Wait) → AllByRecursion (Passes n potentials) all → AllCovered all
+covered_by n potentials all passed = passed_are_covered n potentials all (All-from_recursion (Passes n potentials) all passed)
+
+-- ---- two connections, of which the second is late
+
+two_ways-first : AllCovered (waits (two_ways None) (Some 1 ∷ None ∷ []))
+unfolding allowance latency delay tick sender receiver gcd floor_to block_wait room_wait
+two_ways-first = covered_by 2 (pos 0 ∷ pos 1 ∷ []) (waits (two_ways None) (Some 1 ∷ None ∷ [])) (omega (arith, ints), (omega (arith, ints), (omega (arith, ints), tt)))
+
+two_ways-second : AllCovered (waits (two_ways None) (Some 1 ∷ Some 4 ∷ []))
+unfolding allowance latency delay tick sender receiver gcd floor_to block_wait room_wait
+two_ways-second = covered_by 2 (pos 0 ∷ pos 1 ∷ []) (waits (two_ways None) (Some 1 ∷ Some 4 ∷ [])) (omega (arith, ints), (omega (arith, ints), (omega (arith, ints), (omega (arith, ints), tt))))
+
+two_ways-fewer : (m : ℕ) → 1 ≤ m → m < 4 → HasUncovered (waits (two_ways None) (Some 1 ∷ Some m ∷ []))
+unfolding allowance latency delay tick sender receiver gcd floor_to block_wait room_wait
+two_ways-fewer m low high = (
+  room_wait (two_ways None) 1 m ∷ block_wait (two_ways None) 0 ∷ [],
+  (told_two (waits (two_ways None) (Some 1 ∷ Some m ∷ [])) (room_wait (two_ways None) 1 m) (block_wait (two_ways None) 0) refl refl (omega arith) (3, omega arith, refl) (0, omega arith, refl) (omega (arith, ints))).uncovered,
+)
+
+two_ways-limit : (c : ℕ) → c < 2 → IsLimit (two_ways None) (1 ∷ 4 ∷ []) c (stated (two_ways None) c)
+unfolding sender receiver stated
+two_ways-limit zero lt = record { some = omega arith; covered = two_ways-first; least = λ less low high. absurd (omega arith) }
+two_ways-limit (suc zero) lt = record { some = omega arith; covered = two_ways-second; least = two_ways-fewer }
+two_ways-limit (suc (suc c)) lt = absurd (omega arith)
+
+pub two_ways-limits : AreLimits (two_ways None) (1 ∷ 4 ∷ [])
+two_ways-limits = record { counted = refl; each = two_ways-limit }
+
+pub two_ways-accepted : IsAccepted (two_ways None)
+unfolding allowance latency delay tick sender receiver gcd floor_to block_wait room_wait stated
+two_ways-accepted = covered_by 2 (pos 0 ∷ pos 1 ∷ []) (waits (two_ways None) (stated_limits (two_ways None))) (omega (arith, ints), (omega (arith, ints), tt))
+
+pub two_ways-fits : Fits (two_ways None) (1 ∷ 4 ∷ []) (pos 0 ∷ pos 1 ∷ [])
+unfolding allowance latency delay tick sender receiver gcd floor_to block_wait room_wait
+two_ways-fits = record {
+  limits_counted = refl;
+  potentials_counted = refl;
+  limits_from = All-from_recursion (λ m. 1 ≤ m) (1 ∷ 4 ∷ []) (omega arith, (omega arith, tt));
+  limits_to = All-from_recursion (λ m. m ≤ greatest_limit) (1 ∷ 4 ∷ []) (omega arith, (omega arith, tt));
+  potentials_from = All-from_recursion (λ p. neg_ℤ (pos greatest_potential) ≤ℤ p) (pos 0 ∷ pos 1 ∷ []) (omega (arith, ints), (omega (arith, ints), tt));
+  potentials_to = All-from_recursion (λ p. p ≤ℤ pos greatest_potential) (pos 0 ∷ pos 1 ∷ []) (omega (arith, ints), (omega (arith, ints), tt));
+  passed = All-from_recursion (Passes 2 (pos 0 ∷ pos 1 ∷ [])) (waits (two_ways None) (Some 1 ∷ Some 4 ∷ [])) (omega (arith, ints), (omega (arith, ints), (omega (arith, ints), (omega (arith, ints), tt))));
+}
+
+pub two_ways-well_formed : IsWellFormed (two_ways None)
+unfolding tick sender receiver stated
+two_ways-well_formed = record { ticks = ticks; senders = senders; receivers = receivers; room = room }
+  where
+    ticks : (a : ℕ) → a < 2 → 1 ≤ tick (two_ways None) a
+    ticks zero lt = omega arith
+    ticks (suc zero) lt = omega arith
+    ticks (suc (suc a)) lt = absurd (omega arith)
+
+    senders : (c : ℕ) → c < 2 → sender (two_ways None) c < 2
+    senders zero lt = omega arith
+    senders (suc zero) lt = omega arith
+    senders (suc (suc c)) lt = absurd (omega arith)
+
+    receivers : (c : ℕ) → c < 2 → receiver (two_ways None) c < 2
+    receivers zero lt = omega arith
+    receivers (suc zero) lt = omega arith
+    receivers (suc (suc c)) lt = absurd (omega arith)
+
+    room : (c : ℕ) → c < 2 → IfSome (stated (two_ways None) c) (λ m. 1 ≤ m)
+    room zero lt = tt
+    room (suc zero) lt = tt
+    room (suc (suc c)) lt = absurd (omega arith)
+
+-- ---- where the late one states how much is buffered
+
+four_ways-first : AllCovered (waits (two_ways (Some 4)) (Some 1 ∷ Some 4 ∷ []))
+unfolding allowance latency delay tick sender receiver gcd floor_to block_wait room_wait
+four_ways-first = covered_by 2 (pos 0 ∷ pos 1 ∷ []) (waits (two_ways (Some 4)) (Some 1 ∷ Some 4 ∷ [])) (omega (arith, ints), (omega (arith, ints), (omega (arith, ints), (omega (arith, ints), tt))))
+
+four_ways-limit : (c : ℕ) → c < 2 → IsLimit (two_ways (Some 4)) (1 ∷ 4 ∷ []) c (stated (two_ways (Some 4)) c)
+unfolding sender receiver stated
+four_ways-limit zero lt = record { some = omega arith; covered = four_ways-first; least = λ less low high. absurd (omega arith) }
+four_ways-limit (suc zero) lt = refl
+four_ways-limit (suc (suc c)) lt = absurd (omega arith)
+
+pub four_ways-limits : AreLimits (two_ways (Some 4)) (1 ∷ 4 ∷ [])
+four_ways-limits = record { counted = refl; each = four_ways-limit }
+
+pub three_ways-told : IsTold (waits (two_ways (Some 3)) (stated_limits (two_ways (Some 3)))) (room_wait (two_ways (Some 3)) 1 3 ∷ block_wait (two_ways (Some 3)) 0 ∷ [])
+unfolding allowance latency delay tick sender receiver gcd floor_to block_wait room_wait stated
+three_ways-told =
+    told_two (waits (two_ways (Some 3)) (stated_limits (two_ways (Some 3)))) (room_wait (two_ways (Some 3)) 1 3) (block_wait (two_ways (Some 3)) 0) refl refl (omega arith) (2, omega arith, refl) (0, omega arith, refl) (omega (arith, ints))
+
+-- ---- loops
+
+abbrev pub pair_cycle : ℕ → ℕ → List Wait
+pair_cycle a b = block_wait (pair a b) 1 ∷ block_wait (pair a b) 0 ∷ []
+
+pub pair-no_latency : IsTold (waits (pair 0 0) (stated_limits (pair 0 0))) (pair_cycle 0 0)
+unfolding allowance latency delay tick sender receiver gcd floor_to block_wait room_wait stated
+pair-no_latency = told_two (waits (pair 0 0) (stated_limits (pair 0 0))) (block_wait (pair 0 0) 1) (block_wait (pair 0 0) 0) refl refl (omega arith) (1, omega arith, refl) (0, omega arith, refl) (omega (arith, ints))
+
+pub pair-almost : IsTold (waits (pair 900_000 0) (stated_limits (pair 900_000 0))) (pair_cycle 900_000 0)
+unfolding allowance latency delay tick sender receiver gcd floor_to block_wait room_wait stated
+pair-almost = told_two (waits (pair 900_000 0) (stated_limits (pair 900_000 0))) (block_wait (pair 900_000 0) 1) (block_wait (pair 900_000 0) 0) refl refl (omega arith) (1, omega arith, refl) (0, omega arith, refl) (omega (arith, ints))
+
+pub pair-accepted : IsAccepted (pair 1_000_000 0)
+unfolding allowance latency delay tick sender receiver gcd floor_to block_wait room_wait stated
+pair-accepted = covered_by 2 (pos 0 ∷ pos 1 ∷ []) (waits (pair 1_000_000 0) (stated_limits (pair 1_000_000 0))) (omega (arith, ints), (omega (arith, ints), tt))
+
+pair-first : AllCovered (waits (pair 1_000_000 0) (Some 1 ∷ None ∷ []))
+unfolding allowance latency delay tick sender receiver gcd floor_to block_wait room_wait
+pair-first = covered_by 2 (pos 0 ∷ pos 1 ∷ []) (waits (pair 1_000_000 0) (Some 1 ∷ None ∷ [])) (omega (arith, ints), (omega (arith, ints), (omega (arith, ints), tt)))
+
+pair-second : AllCovered (waits (pair 1_000_000 0) (Some 1 ∷ Some 1 ∷ []))
+unfolding allowance latency delay tick sender receiver gcd floor_to block_wait room_wait
+pair-second = covered_by 2 (pos 0 ∷ pos 1 ∷ []) (waits (pair 1_000_000 0) (Some 1 ∷ Some 1 ∷ [])) (omega (arith, ints), (omega (arith, ints), (omega (arith, ints), (omega (arith, ints), tt))))
+
+pair-limit : (c : ℕ) → c < 2 → IsLimit (pair 1_000_000 0) (1 ∷ 1 ∷ []) c (stated (pair 1_000_000 0) c)
+unfolding sender receiver stated
+pair-limit zero lt = record { some = omega arith; covered = pair-first; least = λ less low high. absurd (omega arith) }
+pair-limit (suc zero) lt = record { some = omega arith; covered = pair-second; least = λ less low high. absurd (omega arith) }
+pair-limit (suc (suc c)) lt = absurd (omega arith)
+
+pub pair-limits : AreLimits (pair 1_000_000 0) (1 ∷ 1 ∷ [])
+pair-limits = record { counted = refl; each = pair-limit }
+
+pub own_loop-accepted : IsAccepted (own_loop 1_000_000)
+unfolding allowance latency delay tick sender receiver gcd floor_to block_wait room_wait stated
+own_loop-accepted = covered_by 1 (pos 0 ∷ []) (waits (own_loop 1_000_000) (stated_limits (own_loop 1_000_000))) (omega (arith, ints), tt)
+
+pub own_loop-almost : IsTold (waits (own_loop 999_999) (stated_limits (own_loop 999_999))) (block_wait (own_loop 999_999) 0 ∷ [])
+unfolding allowance latency delay tick sender receiver gcd floor_to block_wait room_wait stated
+own_loop-almost = told_one (waits (own_loop 999_999) (stated_limits (own_loop 999_999))) (block_wait (own_loop 999_999) 0) refl (0, omega arith, refl) (omega (arith, ints))

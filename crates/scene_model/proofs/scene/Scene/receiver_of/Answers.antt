@@ -1,0 +1,12 @@
+use Rattle.std.proofs.Common.{ap}
+use Rattle.scene_model.specs.Scenes.{app_at, receiver}
+use Rattle.scene_model.proofs.Bounds.{has_ends_at}
+use Rattle.scene_model.proofs.scene.Scene.receiver_of.Goals as goal
+
+pub app-requires : goal.app-requires
+unfolding receiver
+app-requires c = rw c.link.ensures (has_ends_at c.args.self.now c.args.link c.requires.scene c.requires.link).receiver_stands
+
+pub returns : goal.returns
+unfolding receiver
+returns c = rw c.app.ensures (ap (λ link. app_at c.args.self.now link.to_app) c.link.ensures)
