@@ -147,7 +147,7 @@ module _ (n : ℕ) where
 abbrev pub HasPotentials : ℕ → List Wait → Type 0
 HasPotentials n all = (potentials : List ℤ) × (length potentials ≡ n) × All (Passes n potentials) all
 
-All-split : {X : Type 0} (P : X → Type 0) (xs ys : List X) → All P (xs ++ ys) → All P xs × All P ys
+pub All-split : {X : Type 0} (P : X → Type 0) (xs ys : List X) → All P (xs ++ ys) → All P xs × All P ys
 All-split P [] ys all = (All-nil P, all)
 All-split P (x ∷ xs) ys all = let rest = All-split P xs ys (All-tail P x (xs ++ ys) all) in (All-cons P x xs (All-head P x (xs ++ ys) all) rest.0, rest.1)
 

@@ -1,4 +1,5 @@
 pub mod Accepted
+pub mod AcceptedOrTold
 pub mod Bounds
 pub mod Chosen
 pub mod Counting
@@ -16,6 +17,7 @@ pub mod Searching
 pub mod Sound
 pub mod StatedLimits
 pub mod Times
+pub mod ToldCycles
 pub mod WaitBounds
 pub mod Walks
 pub mod Wanted

@@ -1,5 +1,4 @@
 -- A scene without a fault is well formed.
-use Rattle.std.proofs.Common.{length}
 use Rattle.scene_model.specs.declared.scene.Scene.{Scene}
 use Rattle.scene_model.specs.Faults.{IsFaultless}
 use Rattle.scene_model.specs.Limits.{most_buffered}

@@ -5,6 +5,7 @@
 //! without a fault is. No buffer, route or worker stands in it. Whatever runs a scene is held to it.
 #![tactic(auto)]
 
+mod accepted_laws;
 mod act;
 mod clocks;
 mod cover_laws;
@@ -20,6 +21,9 @@ mod time_laws;
 mod wait;
 mod worked_orders;
 
+pub use accepted_laws::{
+    accepted_scenes_are_not_told, faultless_accepted_scenes_are_live, scenes_are_accepted_or_told,
+};
 pub use act::Act;
 pub use clocks::{allowance_of, wanted_blocks};
 pub use cover_laws::passed_waits_are_covered;

@@ -1,0 +1,45 @@
+-- A scene without a fault is accepted, and then live under its limits, or has a cycle to be told; never both.
+use Rattle.std.proofs.Common.{ℕ, ◌⊎◌, inl, inr, length, List}
+use Rattle.std.specs.Prelude.{All}
+use Rattle.scene_model.specs.declared.scene.Scene.{Scene}
+use Rattle.scene_model.specs.declared.wait.Wait.{Wait}
+use Rattle.scene_model.specs.Cover.{AllCovered, HasUncovered, IsTold}
+use Rattle.scene_model.specs.Faults.{IsFaultless}
+use Rattle.scene_model.specs.Orders.{IsLive}
+use Rattle.scene_model.specs.Waits.{AreLimits, IsAccepted, Limits, block_wait, room_wait, stated_limits, waits}
+use Rattle.scene_model.specs.WellFormed.{IsWellFormed}
+use Rattle.scene_model.proofs.Accepted.{accepted_live}
+use Rattle.scene_model.proofs.Chosen.{accepted_have_limits}
+use Rattle.scene_model.proofs.Cycles.{covered_or_not, passed_are_covered}
+use Rattle.scene_model.proofs.LeastWalks.{HasPotentials, IsBetween, potentials_or_uncovered}
+use Rattle.scene_model.proofs.SceneWaits.{All-waits, All-waits_of, limit_of}
+use Rattle.scene_model.proofs.ToldCycles.{HasTold, uncovered_has_told}
+use Rattle.scene_model.proofs.WellFormedScenes.{well_formed}
+
+-- every cycle of some waits between n applications is covered, or one is told
+covered_or_told : (n : ℕ) (all : List Wait) → All (IsBetween n) all → AllCovered all ⊎ HasTold all
+covered_or_told n all between = go (potentials_or_uncovered n all between)
+  where
+    go : HasPotentials n all ⊎ HasUncovered all → AllCovered all ⊎ HasTold all
+    go (inl (potentials, counted, passed)) = inl (passed_are_covered n potentials all passed)
+    go (inr uncovered) = inr (uncovered_has_told all uncovered)
+
+-- the waits of a scene are between its applications
+between : (scene : Scene) → IsWellFormed scene → (limits : Limits) → All (IsBetween (length scene.apps)) (waits scene limits)
+unfolding block_wait room_wait
+between scene ok limits =
+    All-waits (IsBetween (length scene.apps)) scene limits (λ c link.
+    All-waits_of (IsBetween (length scene.apps)) scene c (limit_of limits c) (ok.receivers c link, ok.senders c link) (λ m is. (ok.senders c link, ok.receivers c link)))
+
+pub accepted_or_told : (scene : Scene) → IsFaultless scene → IsAccepted scene ⊎ HasTold (waits scene (stated_limits scene))
+accepted_or_told scene faultless =
+    covered_or_told (length scene.apps) (waits scene (stated_limits scene)) (between scene (well_formed scene faultless) (stated_limits scene))
+
+pub accepted_is_live : (scene : Scene) → IsFaultless scene → IsAccepted scene → (limits : List ℕ) × AreLimits scene limits × IsLive scene limits
+accepted_is_live scene faultless accepted =
+    let ok = well_formed scene faultless in
+    let found = accepted_have_limits scene ok accepted in
+    (found.0, found.1.0, accepted_live scene ok accepted found.0 found.1.0)
+
+pub not_both : (scene : Scene) (cycle : List Wait) → IsAccepted scene → IsTold (waits scene (stated_limits scene)) cycle → ⊥
+not_both scene cycle accepted told = covered_or_not (waits scene (stated_limits scene)) accepted (cycle, told.uncovered)
