@@ -1,0 +1,5 @@
+pub mod CycleTests
+pub mod JoinedLines
+pub mod ShortCycles
+pub mod SumSteps
+pub mod ToldCycles

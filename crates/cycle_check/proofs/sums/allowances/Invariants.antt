@@ -1,0 +1,10 @@
+use Rattle.std.proofs.Common.{◌≡◌, ◌*◌, take, pos, ◌+ℤ◌, ◌≤ℤ◌}
+use Rattle.scene_model.specs.Cover.{allowances, greatest_number}
+use Rattle.cycle_check.proofs.sums.allowances.Given as goal
+
+abbrev pub invariant-loop-wait : goal.invariant-loop-wait
+invariant-loop-wait l = record {
+  sum : l.sum ≡ allowances (take l.wait-index l.waits);
+  low : pos 0 ≤ℤ (l.sum +ℤ pos (l.wait-index * greatest_number));
+  high : l.sum ≤ℤ pos (l.wait-index * greatest_number);
+}

@@ -1,0 +1,5 @@
+pub mod Walks
+pub mod Searching
+pub mod LeastLimits
+pub mod SceneLimits
+pub mod InTurn

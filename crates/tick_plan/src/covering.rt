@@ -1,0 +1,69 @@
+ghost use Rattle.std.specs.Prelude.{◌≡◌, length, map, Some, All, IfOk, IfErr};
+ghost use Rattle.std.specs.Int.{IsInRange};
+ghost use Rattle.scene_model.specs.Cover.{AllCovered, Passes};
+ghost use Rattle.scene_model.specs.Faults.{IsFaultless};
+ghost use Rattle.scene_model.specs.Waits.{IsLawfulLimit, greatest_limit, waits};
+ghost use Rattle.tick_plan.specs.Faults.{TellsUncovered};
+ghost use Rattle.tick_plan.specs.Plans.{IsPotential};
+
+use crate::fault::NegotiateFault;
+use crate::potentials::cover_waits;
+use latency_graph::waits;
+use music_base::NoMemory;
+use scene_model::Scene;
+use std::alloc::Global;
+
+/// Potentials with which every wait of the scene under these limits passes its test, one for each application and each
+/// within 10^24 of zero, or a cycle of these waits that is not covered.
+///
+/// There is one limit for each connection, from 1 to 10^17, or none.
+pub fn cover(
+    alloc: Global,
+    scene: &Scene,
+    limits: &[Option<u64>],
+) -> Result<Vec<i128>, NegotiateFault>
+    requires scene { IsFaultless scene.now }
+    requires counted { length limits.now ≡ length scene.now.links }
+    requires lawful { All IsLawfulLimit limits.now }
+    ensures counted { IfOk result (λ p. length p.items ≡ length scene.now.apps) }
+    ensures near { IfOk result (λ p. All IsPotential p.items) }
+    ensures passed { IfOk result (λ p. All (Passes (length scene.now.apps) p.items) (waits scene.now limits.now)) }
+    ensures covered { IfOk result (λ _. AllCovered (waits scene.now limits.now)) }
+    ensures uncovered { IfErr result (TellsUncovered (waits scene.now limits.now)) }
+{
+    let waits = waits(alloc, scene, limits)?;
+    cover_waits(alloc, scene.apps.len() as u32, &waits)
+}
+
+/// Each limit as one that a connection has.
+pub(crate) fn given(alloc: Global, limits: &[u64]) -> Result<Vec<Option<u64>>, NoMemory>
+    ensures { IfOk result (λ given. given.items ≡ map (λ m. Some m) limits.now) }
+{
+    let mut given = Vec::new(alloc);
+    for limit in limits {
+        given.push(Some(*limit))?;
+    }
+    Ok(given)
+}
+
+/// Potentials for limits under which every cycle is covered.
+pub(crate) fn covered_potentials(
+    alloc: Global,
+    scene: &Scene,
+    limits: &[u64],
+) -> Result<Vec<i128>, NoMemory>
+    requires scene { IsFaultless scene.now }
+    requires counted { length limits.now ≡ length scene.now.links }
+    requires in_range { All (IsInRange 1 greatest_limit) limits.now }
+    requires covered { AllCovered (waits scene.now (map (λ m. Some m) limits.now)) }
+    ensures counted { IfOk result (λ p. length p.items ≡ length scene.now.apps) }
+    ensures near { IfOk result (λ p. All IsPotential p.items) }
+    ensures passed { IfOk result (λ p. All (Passes (length scene.now.apps) p.items) (waits scene.now (map (λ m. Some m) limits.now))) }
+{
+    let given = given(alloc, limits)?;
+    match cover(alloc, scene, &given) {
+        Ok(potentials) => Ok(potentials),
+        Err(NegotiateFault::Memory) => Err(NoMemory),
+        Err(NegotiateFault::Uncovered(_)) => unreachable!(),
+    }
+}

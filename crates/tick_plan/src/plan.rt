@@ -1,0 +1,60 @@
+ghost use Rattle.std.specs.Prelude.{◌≡◌, map, IfOk, IfErr};
+ghost use Rattle.std.specs.Option.{is_some};
+ghost use Rattle.scene_model.specs.Faults.{IsFaultless};
+ghost use Rattle.scene_model.specs.Waits.{AreLimits, IsAccepted, stated_limits, waits};
+ghost use Rattle.tick_plan.specs.Faults.{TellsUncovered};
+ghost use Rattle.tick_plan.specs.Plans.{PlanFits};
+
+use crate::choosing::limits_in_turn;
+use crate::covering::{cover, covered_potentials};
+use crate::fault::NegotiateFault;
+use latency_graph::stated_limits;
+use music_base::NoMemory;
+use scene_model::Scene;
+use std::alloc::Global;
+
+/// How many blocks the connections of a scene keep, and numbers that show that its applications never all wait.
+#[derive(Debug, Drop)]
+pub struct Plan {
+    /// For each connection how many blocks it keeps at most.
+    pub limits: Vec<u64>,
+    /// For each connection whether one of its ends states its limit.
+    pub stated: Vec<bool>,
+    /// A number for each application with which every wait under these limits passes the test of potentials.
+    pub potentials: Vec<i128>,
+}
+
+/// Which of these limits there are.
+fn which_stated(alloc: Global, stated: &[Option<u64>]) -> Result<Vec<bool>, NoMemory>
+    ensures { IfOk result (λ which. which.items ≡ map is_some stated.now) }
+{
+    let mut which = Vec::new(alloc);
+    for limit in stated {
+        which.push(limit.is_some())?;
+    }
+    Ok(which)
+}
+
+/// The limits of a scene and potentials for them. A connection has its stated limit. The others get theirs in turn, each
+/// the least of 1 or more with which every cycle is covered, of waits for a block, of waits for room under the limits that
+/// are stated or already chosen, and of its own wait for room.
+///
+/// The scene is refused exactly where some cycle of its waits under stated limits is not covered, with such a cycle.
+pub fn negotiate(alloc: Global, scene: &Scene) -> Result<Plan, NegotiateFault>
+    requires { IsFaultless scene.now }
+    ensures limits { IfOk result (λ plan. AreLimits scene.now plan.limits.items) }
+    ensures stated { IfOk result (λ plan. plan.stated.items ≡ map is_some (stated_limits scene.now)) }
+    ensures fits { IfOk result (PlanFits scene.now) }
+    ensures accepted { IfOk result (λ _. IsAccepted scene.now) }
+    ensures uncovered { IfErr result (TellsUncovered (waits scene.now (stated_limits scene.now))) }
+{
+    let stated = stated_limits(alloc, scene)?;
+    cover(alloc, scene, &stated)?;
+    let limits = limits_in_turn(alloc, scene, &stated)?;
+    let potentials = covered_potentials(alloc, scene, &limits)?;
+    Ok(Plan {
+        limits,
+        stated: which_stated(alloc, &stated)?,
+        potentials,
+    })
+}
