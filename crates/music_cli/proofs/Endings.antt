@@ -1,31 +1,41 @@
 -- What each way to end says of the status and of the text.
-use Rattle.std.proofs.Common.{◌≡◌, ℕ, ◌<◌, ◌≤◌, lit<, Bool, true, false, List, [], ◌++◌, length, take, Option, Some, None, Ok, Err, refl, sym, ap, subst, ◌∙◌, inl, inr, arith, append-nil}
-use Rattle.std.specs.Prelude.{Result, IsTrue, IsOk, is_some, Contains}
-use Rattle.std.proofs.lemmas.Bool.{cases_lt}
+use Rattle.std.proofs.Common.{◌≡◌, ◌&&◌, ℕ, ◌<◌, ◌≤◌, lit<, Bool, true, false, List, [], ◌++◌, length, take, Option, Some, None, Ok, Err, refl, sym, ap, subst, ◌∙◌, inl, inr, arith, append-nil}
+use Rattle.std.specs.Prelude.{Result, IsTrue, IsOk, IfOk, is_some, Contains}
+use Rattle.std.proofs.lemmas.Bool.{and_parts, cases_lt}
 use Rattle.std.proofs.lemmas.List.{take_all}
 use Rattle.std.proofs.Math.Seq.{take-append_seam}
 use Rattle.music_base.specs.Outside.{Gave, TookPrefix, IsAtEnd}
 use Rattle.music_base.proofs.Transfers.{TookPrefix-nothing}
+use Rattle.config_text.specs.Canon.{is_lawful_config}
 use Rattle.config_text.specs.FirstForm.{first_form}
+use Rattle.config_text.specs.Lawful.{are_links, are_sections, are_settings}
 use Rattle.config_text.specs.Text.{Spells}
 use Rattle.config_text.specs.declared.config.Config.{Config}
 use Rattle.config_text.proofs.OneReading.{some_reading, apart}
+use Rattle.config_text.proofs.SpelledLaws.{spelled_lawful}
 use Rattle.config_text.specs.declared.form.FirstForm.{FirstForm}
 use Rattle.config_text.specs.declared.text_kind.TextKind.{TextKind}
+use Rattle.scene_model.specs.Cover.{IsTold}
+use Rattle.scene_model.specs.Faults.{IsFaultless}
 use Rattle.scene_model.specs.Logs.{log_of}
+use Rattle.scene_model.specs.Waits.{IsAccepted, stated_limits, waits}
 use Rattle.scene_model.specs.declared.scene.Scene.{Scene}
+use Rattle.scene_model.specs.declared.wait.Wait.{Wait}
+use Rattle.scene_model.proofs.AcceptedOrTold.{accepted_or_told, not_both}
+use Rattle.cycle_check.specs.CycleTexts.{cycle_text}
 use Rattle.music_setup.specs.Scenes.{scene_of}
 use Rattle.music_setup.specs.Texts.{text_of_fault}
 use Rattle.music_setup.specs.declared.fault.SetupFault.{SetupFault}
 use Rattle.music_setup.specs.declared.fault.SetupFault.TheVariants as setup
+use Rattle.music_setup.proofs.Faultless.{scene_is_faultless}
 use Rattle.plain_run.specs.Plain as plain
 use Rattle.music_cli.specs.Words.{command_of, are_accepted}
-use Rattle.music_cli.specs.Answers.{AnswersScene, AnswersForm, AnswersConfig, AnswersText, AnswersCommand, Answers, CanDo, CanDoWith, number_of, status_of, outcomes_of, usage_text, read_fault_text, ok_text}
+use Rattle.music_cli.specs.Answers.{AnswersUncovered, AnswersChecked, AnswersScene, AnswersForm, AnswersConfig, AnswersText, AnswersCommand, Answers, CanDo, CanDoWith, number_of, status_of, outcomes_of, usage_text, read_fault_text, ok_text}
 use Rattle.music_cli.specs.Clauses.{Ends, ends, most_read, read_part, IsStatus, HasAnswer, HasPrefix, IsComplete, WasRead, IsSaid, IsGiven, IsRead, Ended, refused, unread, unfound, answered}
 use Rattle.music_cli.specs.declared.command_line.Command.{Command}
 use Rattle.music_cli.specs.declared.command_line.Command.TheVariants.{Check, Run}
 use Rattle.music_cli.specs.declared.status.Status.{Status}
-use Rattle.music_cli.specs.declared.status.Status.TheVariants.{Done, Usage, TextFault, ReadFault, WriteFault, NoMemory}
+use Rattle.music_cli.specs.declared.status.Status.TheVariants.{Done, Usage, TextFault, CycleFault, ReadFault, WriteFault, NoMemory}
 
 -- ---- what was read
 
@@ -56,17 +66,35 @@ form_answer : (found : Result FirstForm (ℕ × TextKind)) → (status : Status)
 form_answer (Ok form) = (Done, log_of (plain.scene_of form), (refl, refl))
 form_answer (Err fault) = (TextFault, text_of_fault None (setup.Text fault.0 fault.1), (refl, refl))
 
-scene_answer : (config : Config) (found : Result Scene SetupFault) → (status : Status) × (text : List ℕ) × AnswersScene config found status text
-scene_answer config (Ok scene) = (Done, ok_text scene, (refl, refl))
-scene_answer config (Err fault) = (status_of fault, text_of_fault (Some config) fault, (refl, refl))
+checked_answer : (scene : Scene) → IsFaultless scene → (status : Status) × (text : List ℕ) × AnswersChecked scene status text
+checked_answer scene faultless = elim (accepted_or_told scene faultless) [
+  | inl accepted ↦ (Done, ok_text scene, inr (accepted, (refl, refl)))
+  | inr told ↦ (CycleFault, cycle_text scene told.0, inl (told.0, told.1, refl, refl))
+]
 
-config_answer : (command : Command) (config : Config) (bytes : List ℕ) → (status : Status) × (text : List ℕ) × AnswersConfig command config bytes status text
-config_answer Check config bytes = scene_answer config (scene_of config)
-config_answer Run config bytes = form_answer (first_form bytes)
+scene_answer : (config : Config) (found : Result Scene SetupFault) → IfOk found IsFaultless → (status : Status) × (text : List ℕ) × AnswersScene config found status text
+scene_answer config (Ok scene) faultless = checked_answer scene faultless
+scene_answer config (Err fault) faultless = (status_of fault, text_of_fault (Some config) fault, (refl, refl))
+
+-- the scene that a lawful configuration describes, if any, has no fault
+pub lawful_is_faultless : (config : Config) → is_lawful_config config ≡ true → IfOk (scene_of config) IsFaultless
+unfolding is_lawful_config
+lawful_is_faultless config lawful =
+    let parts = and_parts (are_settings config.defaults && are_sections config.sections) (are_links config.links) lawful in
+    let front = and_parts (are_settings config.defaults) (are_sections config.sections) parts.0 in
+    go (scene_of config) (λ scene gave. scene_is_faultless config scene front.1 parts.1 gave)
+  where
+    go : (found : Result Scene SetupFault) → ((scene : Scene) → found ≡ Ok scene → IsFaultless scene) → IfOk found IsFaultless
+    go (Ok scene) each = each scene refl
+    go (Err fault) each = tt
+
+config_answer : (command : Command) (config : Config) (bytes : List ℕ) → is_lawful_config config ≡ true → (status : Status) × (text : List ℕ) × AnswersConfig command config bytes status text
+config_answer Check config bytes lawful = scene_answer config (scene_of config) (lawful_is_faultless config lawful)
+config_answer Run config bytes lawful = form_answer (first_form bytes)
 
 right_answer : (command : Command) (bytes : List ℕ) (config : Config) → Spells config bytes → (status : Status) × (text : List ℕ) × AnswersText command bytes status text
 right_answer command bytes config spells =
-    let answer = config_answer command config bytes in
+    let answer = config_answer command config bytes (spelled_lawful bytes config spells) in
     (answer.0, answer.1, inr (config, spells, answer.2))
 
 text_answer : (command : Command) (bytes : List ℕ) → (status : Status) × (text : List ℕ) × AnswersText command bytes status text
@@ -90,12 +118,22 @@ form_done : (found : Result FirstForm (ℕ × TextKind)) (status : Status) (text
 form_done (Ok form) status text ok answers = answers.0
 form_done (Err fault) status text ok answers = absurd cc
 
-scene_done : (config : Config) (found : Result Scene SetupFault) (status : Status) (text : List ℕ) → IsOk found → AnswersScene config found status text → status ≡ Done
-scene_done config (Ok scene) status text ok answers = answers.0
-scene_done config (Err fault) status text ok answers = absurd cc
+-- an accepted scene has no cycle that is told
+checked_done : (scene : Scene) (status : Status) (text : List ℕ) → IsAccepted scene → AnswersChecked scene status text → status ≡ Done
+checked_done scene status text accepted answers = elim answers [
+  | inl uncovered ↦ absurd (not_both scene uncovered.0 accepted uncovered.1)
+  | inr done ↦ done.1.0
+]
+
+scene_done : (config : Config) (found : Result Scene SetupFault) (status : Status) (text : List ℕ) → (scene : Scene) → found ≡ Ok scene → IsAccepted scene → AnswersScene config found status text
+    → status ≡ Done
+scene_done config (Ok found) status text scene is accepted answers =
+    let same : found ≡ scene = cc in
+    checked_done found status text (subst IsAccepted (sym same) accepted) answers
+scene_done config (Err fault) status text scene is accepted answers = absurd cc
 
 config_done : (command : Command) (config : Config) (bytes : List ℕ) (status : Status) (text : List ℕ) → CanDoWith command config bytes → AnswersConfig command config bytes status text → status ≡ Done
-config_done Check config bytes status text can answers = scene_done config (scene_of config) status text can answers
+config_done Check config bytes status text can answers = scene_done config (scene_of config) status text can.0 can.1 can.2 answers
 config_done Run config bytes status text can answers = form_done (first_form bytes) status text can answers
 
 -- a text spells one configuration
@@ -117,10 +155,16 @@ fault_outcome : (fault : SetupFault) (status : Status) → status ≡ status_of 
 fault_outcome (setup.Text line kind) status is = (1, lit< tt, sym is)
 fault_outcome (setup.Scene fault) status is = (2, lit< tt, sym is)
 fault_outcome (setup.Link place what) status is = (2, lit< tt, sym is)
-fault_outcome setup.Memory status is = (5, lit< tt, sym is)
+fault_outcome setup.Memory status is = (6, lit< tt, sym is)
+
+checked_outcome : (scene : Scene) (status : Status) (text : List ℕ) → AnswersChecked scene status text → Contains (outcomes_of (Some Check)) status
+checked_outcome scene status text answers = elim answers [
+  | inl uncovered ↦ (3, lit< tt, sym uncovered.2)
+  | inr done ↦ (0, lit< tt, sym done.1.0)
+]
 
 scene_outcome : (config : Config) (found : Result Scene SetupFault) (status : Status) (text : List ℕ) → AnswersScene config found status text → Contains (outcomes_of (Some Check)) status
-scene_outcome config (Ok scene) status text answers = (0, lit< tt, sym answers.0)
+scene_outcome config (Ok scene) status text answers = checked_outcome scene status text answers
 scene_outcome config (Err fault) status text answers = fault_outcome fault status answers.0
 
 config_outcome : (command : Command) (config : Config) (bytes : List ℕ) (status : Status) (text : List ℕ) → AnswersConfig command config bytes status text → Contains (outcomes_of (Some command)) status
@@ -140,17 +184,17 @@ answer_outcome (Some command) bytes status text answers = elim answers [
 
 write_fault_outcome : (command : Option Command) → Contains (outcomes_of command) WriteFault
 write_fault_outcome None = (1, lit< tt, refl)
-write_fault_outcome (Some Check) = (4, lit< tt, refl)
+write_fault_outcome (Some Check) = (5, lit< tt, refl)
 write_fault_outcome (Some Run) = (3, lit< tt, refl)
 
 read_fault_outcome : (command : Option Command) → is_some command ≡ true → Contains (outcomes_of command) ReadFault
 read_fault_outcome None some = absurd cc
-read_fault_outcome (Some Check) some = (3, lit< tt, refl)
+read_fault_outcome (Some Check) some = (4, lit< tt, refl)
 read_fault_outcome (Some Run) some = (2, lit< tt, refl)
 
 memory_outcome : (command : Option Command) → is_some command ≡ true → Contains (outcomes_of command) NoMemory
 memory_outcome None some = absurd cc
-memory_outcome (Some Check) some = (5, lit< tt, refl)
+memory_outcome (Some Check) some = (6, lit< tt, refl)
 memory_outcome (Some Run) some = (4, lit< tt, refl)
 
 -- ---- an answer that was given
@@ -162,11 +206,23 @@ given_none P before faults answer = record { status = answer.0; text = answer.1;
 pub form_unfound : (found : Result FirstForm (ℕ × TextKind)) (before : Option (List ℕ)) (faults : ℕ) → IsGiven (AnswersForm found) (ends before before faults faults) NoMemory
 form_unfound found before faults = given_none (AnswersForm found) before faults (form_answer found)
 
-pub scene_unfound : (config : Config) (found : Result Scene SetupFault) (before : Option (List ℕ)) (faults : ℕ) → IsGiven (AnswersScene config found) (ends before before faults faults) NoMemory
-scene_unfound config found before faults = given_none (AnswersScene config found) before faults (scene_answer config found)
+pub told_unfound : (scene : Scene) (cycle : List Wait) (before : Option (List ℕ)) (faults : ℕ) → IsTold (waits scene (stated_limits scene)) cycle
+    → IsGiven (AnswersUncovered scene) (ends before before faults faults) NoMemory
+told_unfound scene cycle before faults told = given_none (AnswersUncovered scene) before faults (CycleFault, cycle_text scene cycle, (cycle, told, refl, refl))
+
+pub checked_unfound : (scene : Scene) (before : Option (List ℕ)) (faults : ℕ) → IsFaultless scene → IsGiven (AnswersChecked scene) (ends before before faults faults) NoMemory
+checked_unfound scene before faults faultless = given_none (AnswersChecked scene) before faults (checked_answer scene faultless)
+
+pub scene_unfound : (config : Config) (before : Option (List ℕ)) (faults : ℕ) → is_lawful_config config ≡ true → IsGiven (AnswersScene config (scene_of config)) (ends before before faults faults) NoMemory
+scene_unfound config before faults lawful = given_none (AnswersScene config (scene_of config)) before faults (scene_answer config (scene_of config) (lawful_is_faultless config lawful))
 
 pub text_unfound : (command : Command) (bytes : List ℕ) (before : Option (List ℕ)) (faults : ℕ) → IsGiven (AnswersText command bytes) (ends before before faults faults) NoMemory
 text_unfound command bytes before faults = given_none (AnswersText command bytes) before faults (text_answer command bytes)
+
+-- an answer that was given is one of each kind that it belongs to
+pub given_as : (P Q : Status → List ℕ → Type 0) (sink : Ends) (result : Status) → ((status : Status) (text : List ℕ) → P status text → Q status text) → IsGiven P sink result → IsGiven Q sink result
+given_as P Q sink result more given =
+    record { status = given.status; text = given.text; found_so = more given.status given.text given.found_so; cases = given.cases; prefix = given.prefix }
 
 -- what a command gave to what was read, it gave to the words
 pub given_to_words : (command : Command) (words : List (List ℕ)) (bytes read : List ℕ) (sink : Ends) (result : Status) → read ≡ bytes → command_of words ≡ Some command

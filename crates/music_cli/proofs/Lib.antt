@@ -1,1 +1,3 @@
+pub mod ToldCycles
 pub mod Endings
+pub mod LiveScenes

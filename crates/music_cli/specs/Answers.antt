@@ -6,8 +6,13 @@ use Rattle.config_text.specs.Text.{Spells, HasFault}
 use Rattle.config_text.specs.declared.config.Config.{Config}
 use Rattle.config_text.specs.declared.form.FirstForm.{FirstForm}
 use Rattle.config_text.specs.declared.text_kind.TextKind.{TextKind}
+use Rattle.scene_model.specs.Cover.{IsTold}
 use Rattle.scene_model.specs.Logs.{log_of}
+use Rattle.scene_model.specs.Orders.{IsLive}
+use Rattle.scene_model.specs.Waits.{AreLimits, IsAccepted, stated_limits, waits}
 use Rattle.scene_model.specs.declared.scene.Scene.{Scene}
+use Rattle.scene_model.specs.declared.wait.Wait.{Wait}
+use Rattle.cycle_check.specs.CycleTexts.{cycle_text}
 use Rattle.music_setup.specs.Scenes.{scene_of}
 use Rattle.music_setup.specs.Texts.{line_end, text_of_fault}
 use Rattle.music_setup.specs.declared.fault.SetupFault.{SetupFault}
@@ -17,7 +22,7 @@ use Rattle.music_cli.specs.Words.{command_of}
 use Rattle.music_cli.specs.declared.command_line.Command.{Command}
 use Rattle.music_cli.specs.declared.command_line.Command.TheVariants.{Check, Run}
 use Rattle.music_cli.specs.declared.status.Status.{Status}
-use Rattle.music_cli.specs.declared.status.Status.TheVariants.{Done, Usage, TextFault, SceneFault, ReadFault, WriteFault, NoMemory}
+use Rattle.music_cli.specs.declared.status.Status.TheVariants.{Done, Usage, TextFault, SceneFault, CycleFault, ReadFault, WriteFault, NoMemory}
 
 -- ---- statuses
 
@@ -27,6 +32,7 @@ number_of Done = 0
 number_of Usage = 2
 number_of TextFault = 3
 number_of SceneFault = 4
+number_of CycleFault = 5
 number_of ReadFault = 6
 number_of WriteFault = 7
 number_of NoMemory = 8
@@ -41,7 +47,7 @@ status_of setup.Memory = NoMemory
 -- the outcomes that can come at all: where the words are refused, and of each command
 abbrev pub outcomes_of : Option Command → List Status
 outcomes_of None = Usage ∷ WriteFault ∷ []
-outcomes_of (Some Check) = Done ∷ TextFault ∷ SceneFault ∷ ReadFault ∷ WriteFault ∷ NoMemory ∷ []
+outcomes_of (Some Check) = Done ∷ TextFault ∷ SceneFault ∷ CycleFault ∷ ReadFault ∷ WriteFault ∷ NoMemory ∷ []
 outcomes_of (Some Run) = Done ∷ TextFault ∷ ReadFault ∷ WriteFault ∷ NoMemory ∷ []
 
 -- ---- texts
@@ -66,9 +72,19 @@ AnswersDone done status text = (status ≡ Done) × (text ≡ done)
 abbrev pub AnswersFault : Option Config → SetupFault → Status → List ℕ → Type 0
 AnswersFault config fault status text = (status ≡ status_of fault) × (text ≡ text_of_fault config fault)
 
--- `check` answers how large the scene is that the configuration describes, or the first fault of the configuration
+-- A cycle of the scene's waits under stated limits is not covered, and its text is written. No application waits twice in
+-- it, and its first waiter has the least place.
+abbrev pub AnswersUncovered : Scene → Status → List ℕ → Type 0
+AnswersUncovered scene status text =
+    (cycle : List Wait) × IsTold (waits scene (stated_limits scene)) cycle × (status ≡ CycleFault) × (text ≡ cycle_text scene cycle)
+
+-- an accepted scene gets its size, and any other one a cycle that is not covered
+abbrev pub AnswersChecked : Scene → Status → List ℕ → Type 0
+AnswersChecked scene status text = AnswersUncovered scene status text ⊎ (IsAccepted scene × AnswersDone (ok_text scene) status text)
+
+-- `check` answers whether the scene that the configuration describes is accepted, or the first fault of the configuration
 abbrev pub AnswersScene : Config → Result Scene SetupFault → Status → List ℕ → Type 0
-AnswersScene config (Ok scene) = AnswersDone (ok_text scene)
+AnswersScene config (Ok scene) = AnswersChecked scene
 AnswersScene config (Err fault) = AnswersFault (Some config) fault
 
 -- `run` answers the log of the scene where the text has the first form, and otherwise the line at which it leaves that form
@@ -97,11 +113,16 @@ AnswersCommand (Some command) bytes status text = AnswersText command bytes stat
 abbrev pub Answers : List (List ℕ) → List ℕ → Status → List ℕ → Type 0
 Answers words bytes status text = AnswersCommand (command_of words) bytes status text
 
+-- the scene has limits, and under them it never gets stuck: after every lawful order some act is allowed, or all
+-- applications are finished
+abbrev pub HasLiveLimits : Scene → Type 0
+HasLiveLimits scene = (limits : List ℕ) × AreLimits scene limits × IsLive scene limits
+
 -- ---- what can be done
 
--- `check` is done where the configuration describes a scene, `run` today where the text has the first form
+-- `check` is done where the configuration describes a scene that is accepted, `run` today where the text has the first form
 abbrev pub CanDoWith : Command → Config → List ℕ → Type 0
-CanDoWith Check config bytes = IsOk (scene_of config)
+CanDoWith Check config bytes = (scene : Scene) × (scene_of config ≡ Ok scene) × IsAccepted scene
 CanDoWith Run config bytes = IsOk (first_form bytes)
 
 -- the bytes spell a configuration with which the command can be done

@@ -1,10 +1,15 @@
 -- What holds of each call of the program, over any source and any sink.
-use Rattle.std.specs.Prelude.{◌≡◌, ◌≢◌, ◌⊎◌, ℕ, ◌<◌, ◌≤◌, true, false, List, length, take, Option, Some, IsTrue, Contains}
+use Rattle.std.specs.Prelude.{◌≡◌, ◌≢◌, ◌⊎◌, ℕ, ◌<◌, ◌≤◌, true, false, List, length, take, Option, Some, Ok, IsTrue, Contains}
 use Rattle.music_base.specs.Causes.{Rose}
 use Rattle.music_base.specs.Outside.{Gave, IsAtEnd, Took, TookPrefix}
+use Rattle.config_text.specs.Text.{Spells}
+use Rattle.config_text.specs.declared.config.Config.{Config}
+use Rattle.scene_model.specs.declared.scene.Scene.{Scene}
+use Rattle.music_setup.specs.Scenes.{scene_of}
 use Rattle.music_cli.specs.Words.{command_of, are_accepted}
-use Rattle.music_cli.specs.Answers.{Answers, CanDo, number_of, outcomes_of, usage_text, read_fault_text}
+use Rattle.music_cli.specs.Answers.{Answers, CanDo, HasLiveLimits, number_of, outcomes_of, usage_text, read_fault_text}
 use Rattle.music_cli.specs.declared.command_line.Command.{Command}
+use Rattle.music_cli.specs.declared.command_line.Command.TheVariants.{Check}
 use Rattle.music_cli.specs.declared.status.Status.{Status}
 use Rattle.music_cli.specs.declared.status.Status.TheVariants.{Done, Usage, ReadFault, WriteFault, NoMemory}
 
@@ -100,6 +105,11 @@ HasPrefix words source sink result = (bytes : List ℕ) → source.before ≡ So
 abbrev pub IsComplete : List (List ℕ) → Ends → Ends → ℕ → Type 0
 IsComplete words source sink result = (command : Command) (bytes : List ℕ) → command_of words ≡ Some command → source.before ≡ Some bytes → CanDo command (read_part bytes) →
     (Failed source → ⊥) → (Failed sink → ⊥) → (result ≡ number_of Done) ⊎ (result ≡ number_of NoMemory)
+
+-- where `check` is done, the bytes spell a configuration whose scene has limits under which it is live
+abbrev pub IsLiveWhenDone : List (List ℕ) → Ends → ℕ → Type 0
+IsLiveWhenDone words source result = (bytes : List ℕ) → source.before ≡ Some bytes → command_of words ≡ Some Check → result ≡ number_of Done →
+    (config : Config) × Spells config (read_part bytes) × (scene : Scene) × (scene_of config ≡ Ok scene) × HasLiveLimits scene
 
 -- ---- how a call can end
 

@@ -1,5 +1,6 @@
 //! What the commands answer to the bytes that were read.
-ghost use Rattle.std.specs.Prelude.{◌≡◌};
+ghost use Rattle.std.specs.Prelude.{◌≡◌, true};
+ghost use Rattle.config_text.specs.Canon.{is_lawful_config};
 ghost use Rattle.config_text.specs.Text.{Spells};
 ghost use Rattle.music_cli.specs.Answers.{AnswersConfig, AnswersText};
 ghost use Rattle.music_cli.specs.Clauses.{ends, IsGiven};
@@ -21,6 +22,7 @@ fn answer_config<K: Sink>(
     bytes: &[u8],
     sink: &mut K,
 ) -> Status
+    requires { is_lawful_config config.now ≡ true }
     ensures { IsGiven (AnswersConfig command config.now bytes.now) (ends (K.taken sink.old) (K.taken sink.new) (K.faults sink.old) (K.faults sink.new)) result }
 {
     match command {

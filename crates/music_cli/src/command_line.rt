@@ -4,7 +4,7 @@ ghost use Rattle.music_cli.specs.Words.{command_of, texts};
 /// What the program can be asked to do.
 #[derive(Clone, Copy, Debug, PartialEq, Eq)]
 pub enum Command {
-    /// Say how large the scene is that the text describes, or its first fault.
+    /// Say how large the scene is that the text describes, or its first fault, or a cycle of its waits that is not covered.
     Check,
     /// Run the scene and write its log.
     Run,

@@ -13,6 +13,8 @@ pub enum Status {
     TextFault,
     /// The configuration describes no scene, and the line of its first fault was written.
     SceneFault,
+    /// Some applications of the scene can wait for each other for ever, and the cycle of their waits was written.
+    CycleFault,
     /// The source failed.
     ReadFault,
     /// The sink failed.
@@ -34,6 +36,7 @@ impl Status {
             Status::Usage => 2,
             Status::TextFault => 3,
             Status::SceneFault => 4,
+            Status::CycleFault => 5,
             Status::ReadFault => 6,
             Status::WriteFault => 7,
             Status::NoMemory => 8,

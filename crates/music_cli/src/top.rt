@@ -9,6 +9,7 @@ ghost use Rattle.music_cli.specs.Clauses.{
   HasReadFaultCause,
   HasWriteFaultCause,
   IsComplete,
+  IsLiveWhenDone,
   IsStatus,
   IsUsage,
   NotUsage,
@@ -63,10 +64,11 @@ fn answer<S: Source, K: Sink>(
 /// The words are those behind the program's name, and exactly the one word `check` or the one word `run` is accepted.
 /// The source is then read to its end, or one byte further than a text may be long. Written to the sink is what the
 /// command asks of the configuration that the text spells, or the line that says why there is none: by `check` how many
-/// applications and connections its scene has, by `run` the log of the scene. The answer is the program's exit status:
-/// 0 done, 2 wrong words, 3 a fault of the text, 4 a fault of the scene or of a connection, 6 the source failed, 7 the
-/// sink failed, 8 memory was not found. Today `run` serves texts of the first form alone and refuses any other one with
-/// status 3, so it never ends with 4.
+/// applications and connections its scene has, or a cycle of the scene's waits that is not covered; by `run` the log of
+/// the scene. The answer is the program's exit status: 0 done, 2 wrong words, 3 a fault of the text, 4 a fault of the scene
+/// or of a connection, 5 a cycle of waits that is not covered, 6 the source failed, 7 the sink failed, 8 memory was not
+/// found. Today `run` serves texts of the first form alone and refuses any other one with status 3, so it never ends with 4
+/// or 5.
 pub fn music_alone<S: Source, K: Sink>(
     alloc: Global,
     words: &Vec<String>,
@@ -97,6 +99,8 @@ pub fn music_alone<S: Source, K: Sink>(
     ensures completeness { IsComplete (texts words.now.items)
         (ends (S.left source.old) (S.left source.new) (S.faults source.old) (S.faults source.new))
         (ends (K.taken sink.old) (K.taken sink.new) (K.faults sink.old) (K.faults sink.new)) result }
+    ensures accepted_scenes_are_live { IsLiveWhenDone (texts words.now.items)
+        (ends (S.left source.old) (S.left source.new) (S.faults source.old) (S.faults source.new)) result }
 {
     let status = answer(alloc, words, source, sink);
     status.number()
@@ -137,6 +141,8 @@ pub fn music<R: Threads + Wait + Sync, S: Source, K: Sink, G: Gate>(
     ensures completeness { IsComplete (texts words.now.items)
         (ends (S.left source.old) (S.left source.new) (S.faults source.old) (S.faults source.new))
         (ends (K.taken sink.old) (K.taken sink.new) (K.faults sink.old) (K.faults sink.new)) result }
+    ensures accepted_scenes_are_live { IsLiveWhenDone (texts words.now.items)
+        (ends (S.left source.old) (S.left source.new) (S.faults source.old) (S.faults source.new)) result }
 {
     let _ = rt;
     let _ = gate;

@@ -1,10 +1,10 @@
-//! The command `check`: each kind of fault, each limit and what lies past it, and the first of two faults.
+//! The command `check`: each kind of fault, each limit and what lies past it, the first of two faults, and cycles of waits.
+use crate::cycle_rows::{CYCLE_EXAMPLES, LOOPS, OWN_LOOPS, PATHS, ROOM, VALUE_LOOPS};
 use crate::port_rows::{CONNECTIONS, PORTS, PORTS_OF_TWO};
+use crate::ring_rows::{RING_BACK, RING_FRONT, RING_LATENCIES};
 use crate::rows::Row;
 use crate::rule_rows::RULES;
-use crate::scene_rows::{
-    CYCLES, EXAMPLES, ORDERS, PERIODS, SETTINGS, STEPS, WHOLE_TEXTS, WORKED_SCENES,
-};
+use crate::scene_rows::{EXAMPLES, ORDERS, PERIODS, SETTINGS, STEPS, WHOLE_TEXTS, WORKED_SCENES};
 use crate::texts::{blanks, words_of};
 use itoa::Buffer;
 use music_base::{MemorySink, MemorySource, NoMemory};
@@ -34,6 +34,9 @@ const LINK_FRAME: &[u8] = b"stoptime=0.003\nbinary=script\ntimestep=0.001\n[a]\n
     out cont c 0+4; in cont d 0+4; in cont past 2+4; in cont list 3,0; in message n; \
     out event far 65535\n";
 
+/// What an answer may have at most, in bytes.
+const LONGEST_ANSWER: u64 = 3000;
+
 fn joined(alloc: Global, parts: &[&[u8]]) -> Result<Vec<u8>, NoMemory> {
     let mut text = Vec::new(alloc);
     for part in parts {
@@ -50,7 +53,7 @@ fn gets(
     answer: &[u8],
 ) -> Result<bool, NoMemory> {
     let words = words_of(alloc, &["check"])?;
-    let mut sink = MemorySink::make(alloc, 1000, 1000)?;
+    let mut sink = MemorySink::make(alloc, 1000, LONGEST_ANSWER)?;
     let given = music_alone(alloc, &words, &mut source, &mut sink);
     Ok(given == status && sink.taken() == answer)
 }
@@ -74,9 +77,21 @@ fn are_checked(rt: &impl Abort, alloc: Global, front: &[u8], rows: &[Row<'_>], b
 
 #[test]
 fn whole_texts_are_checked(rt: HostRuntime) {
-    for rows in [WHOLE_TEXTS, WORKED_SCENES, EXAMPLES, STEPS, PERIODS, CYCLES] {
+    for rows in [WHOLE_TEXTS, WORKED_SCENES, EXAMPLES, STEPS, PERIODS] {
         are_checked(&rt, rt.alloc(), b"", rows, b"");
     }
+}
+
+#[test]
+fn cycles_of_waits_are_checked(rt: HostRuntime) {
+    for rows in [CYCLE_EXAMPLES, LOOPS, OWN_LOOPS, VALUE_LOOPS, ROOM, PATHS] {
+        are_checked(&rt, rt.alloc(), b"", rows, b"");
+    }
+}
+
+#[test]
+fn the_longest_cycle_is_checked(rt: HostRuntime) {
+    are_checked(&rt, rt.alloc(), RING_FRONT, RING_LATENCIES, RING_BACK);
 }
 
 #[test]

@@ -8,9 +8,13 @@ mod calls;
 #[cfg(test)]
 mod checks;
 #[cfg(test)]
+mod cycle_rows;
+#[cfg(test)]
 mod port_rows;
 #[cfg(test)]
 mod refused_memory;
+#[cfg(test)]
+mod ring_rows;
 #[cfg(test)]
 mod rows;
 #[cfg(test)]

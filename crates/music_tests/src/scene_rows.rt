@@ -464,6 +464,21 @@ args=x
         status: 4,
         answer: b"scene fault: application a: rule 1: RuleText\n",
     },
+    // connections before cycles of waits
+    Row {
+        text: b"stoptime=0.01
+binary=script
+timestep=0.001
+ports=out event out 0+1; in event in 0+1
+[a]
+[b]
+a.out -> b.in
+b.out -> a.in
+a.out -> b.none
+",
+        status: 4,
+        answer: b"link fault: connection 3: UnknownPort\n",
+    },
 ];
 
 /// Settings of an application.
@@ -665,38 +680,5 @@ args=emit e 0 every 0 from 0
 ",
         status: 4,
         answer: b"scene fault: application a: rule 1: RuleRate\n",
-    },
-];
-
-/// Applications that can wait for each other for ever. No cycle of waits is looked for.
-pub const CYCLES: &[Row<'static>] = &[
-    // a ring without latency
-    Row {
-        text: b"stoptime=0.01
-binary=script
-timestep=0.001
-ports=out event out 0+1; in event in 0+1
-[a]
-[b]
-a.out -> b.in
-b.out -> a.in
-",
-        status: 0,
-        answer: b"ok: 2 applications, 2 connections\n",
-    },
-    // a stated buffer
-    Row {
-        text: b"stoptime=0.01
-binary=script
-timestep=0.001
-[gen]
-ports=out event a 0+1; out event b 0+1 buffered 3
-[sink]
-ports=in event p 0+1; in event q 0+1 latency 0.005
-gen.a -> sink.p
-gen.b -> sink.q
-",
-        status: 0,
-        answer: b"ok: 2 applications, 2 connections\n",
     },
 ];

@@ -10,6 +10,8 @@ mod copies;
 #[cfg(test)]
 mod maps;
 #[cfg(test)]
+mod plans;
+#[cfg(test)]
 mod standard_ends;
 #[cfg(test)]
 mod texts;

@@ -6,4 +6,4 @@ pub refuse-requires : goal.refuse-requires
 refuse-requires g c = fault_of_config c.args.config.now c.in-Err.fault c.in-Err.ensures.fault c.in_default.not-Memory
 
 pub returns-in-Memory : goal.returns-in-Memory
-returns-in-Memory g c = scene_unfound _ _ _ _
+returns-in-Memory g c = scene_unfound _ _ _ c.requires
