@@ -18,7 +18,7 @@ pub record StandsAlone (line : List ℕ) : Type 0 where
   pub begins : begins_with_blank line ≡ false
   pub ends : ends_with_blank line ≡ false
 
-no_cr_in_text : (line : List ℕ) → list_all is_text_byte line ≡ true → without_cr line ≡ line
+pub no_cr_in_text : (line : List ℕ) → list_all is_text_byte line ≡ true → without_cr line ≡ line
 no_cr_in_text line all =
     sym (no_cr line (λ some is.
     let t : is_text_byte (get_or line (length line - 1) 0) ≡ true = AllPass-from_list_all is_text_byte line all (length line - 1) 0 (omega arith) in

@@ -28,6 +28,7 @@ pub mod CanonLines
 pub mod CanonConfig
 pub mod CanonFree
 pub mod Canonical
+pub mod SettingLine
 pub mod Written
 pub mod NoLines
 pub mod Times

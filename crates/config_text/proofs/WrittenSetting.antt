@@ -109,7 +109,7 @@ quoted_read value is =
     let long : leb 2 (length (quote ∷ value ++ quote ∷ [])) ≡ true = le-leb 2 _ (omega (arith, length-append value (quote ∷ []))) in
     rw (alone, long, ends_in_last (quote ∷ value) quote, middle value quote quote, (value_parts value is).unquoted) refl
 
-not_quoted : (value : List ℕ) → list_any is_quote value ≡ false → is_quoted value ≡ false
+pub not_quoted : (value : List ℕ) → list_any is_quote value ≡ false → is_quoted value ≡ false
 not_quoted [] none = refl
 not_quoted (c ∷ cs) none = rw (or_parts (is_quote c) (list_any is_quote cs) none).0 (go (leb 2 (length (c ∷ cs))))
   where

@@ -1,6 +1,8 @@
 -- Words of the inner calls alone: no clause of a public call has them.
-use Rattle.std.specs.Prelude.{◌≡◌, ℕ, List, [], ◌∷◌, ◌++◌, None, Result, Ok, Err}
+use Rattle.std.specs.Prelude.{◌≡◌, ℕ, Bool, not, ◌&&◌, if◌then◌else◌, List, [], ◌∷◌, ◌++◌, None, Result, Ok, Err}
+use Rattle.std.specs.List.{list_all}
 use Rattle.config_text.specs.declared.text_kind.TextKind.{TextKind}
+use Rattle.config_text.specs.declared.text_kind.TextKind.TheVariants.{BadByte}
 use Rattle.config_text.specs.declared.text_fault.TextFault.{TextFault}
 use Rattle.config_text.specs.declared.text_fault.TextFault.TheVariants as text_faults
 use Rattle.config_text.specs.declared.reading.LineFault.{LineFault}
@@ -12,7 +14,9 @@ use Rattle.config_text.specs.declared.connection.Connection.{Connection}
 use Rattle.config_text.specs.declared.content.LentContent.{LentContent}
 use Rattle.config_text.specs.declared.content.LentContent.TheVariants as lent
 use Rattle.config_text.specs.Connections.{link_between}
-use Rattle.config_text.specs.Contents.{Content, blank, section, setting, connection}
+use Rattle.config_text.specs.Contents.{Content, blank, section, setting, connection, value_in}
+use Rattle.config_text.specs.Bytes.{equals, is_quote, is_comment_sign, is_text_byte}
+use Rattle.config_text.specs.Parts.{◌>>=◌, name_in, without_cr, before_comment}
 use Rattle.config_text.specs.Pairs.{SectionList, onto_last}
 use Rattle.config_text.specs.Text.{fault_beside}
 
@@ -34,6 +38,25 @@ seen lent.Blank = blank
 seen (lent.Section name) = section name.now
 seen (lent.Setting name value) = setting name.now value.now
 seen (lent.Connection c) = connection (link_of c)
+
+-- ---- the line of a setting, by its front
+
+-- The line is a name, with blanks around it or none, an '=' and what stands behind that.
+abbrev pub IsSettingFront : List ℕ → List ℕ → List ℕ → Type 0
+IsSettingFront line name behind = (before : List ℕ) × (line ≡ before ++ equals ∷ behind) × (name_in before ≡ Ok name)
+
+-- what may stand in a line that has neither a comment nor quotation marks
+abbrev pub is_plain_byte : ℕ → Bool
+is_plain_byte b = is_text_byte b && not (is_quote b) && not (is_comment_sign b)
+
+-- the value that stands behind the '=', to the end of the line
+abbrev pub value_behind : List ℕ → Result (List ℕ) TextKind
+value_behind behind = let visible = before_comment (without_cr behind) in
+    if list_all is_text_byte visible then value_in visible else Err BadByte
+
+-- what a setting's line of this name says
+abbrev pub setting_before : List ℕ → List ℕ → Result Content TextKind
+setting_before name behind = value_behind behind >>= λ value. Ok (setting name value)
 
 -- ---- one more line
 

@@ -3,7 +3,7 @@
 ghost use Rattle.std.specs.Prelude.{◌≡◌, ◌<◌, slice_index, length};
 ghost use Rattle.config_text.specs.Bytes.{open_bracket};
 ghost use Rattle.config_text.specs.Contents.{is_quoted, value_in, section_in, is_setting, setting_in, content_in, content_of};
-ghost use Rattle.config_text.specs.Inner.{Gives, seen};
+ghost use Rattle.config_text.specs.Inner.{Gives, seen, setting_before};
 
 use crate::TextKind;
 use crate::connection::{Connection, connection_in, has_arrow};
@@ -11,6 +11,7 @@ use crate::parts::{
     after_first, before_comment, before_first, between_ends, ends_in_bracket, has, is_text,
     name_in, trimmed, without_cr,
 };
+use crate::setting_line::{setting_front, value_behind};
 
 /// What a line says that is not faulty by itself, lent from the line.
 #[derive(Clone, Copy)]
@@ -27,7 +28,8 @@ fn is_quoted(raw: &[u8]) -> bool
     2 <= raw.len() && raw[0] == b'"' && raw[raw.len() - 1] == b'"' && !has(between_ends(raw), b'"')
 }
 
-fn value_in(text: &[u8]) -> Result<&[u8], TextKind>
+/// The value that stands in the text, with blanks around it or none.
+pub fn value_in(text: &[u8]) -> Result<&[u8], TextKind>
     ensures { Gives (λ value. value.now) result (value_in text.now) }
 {
     let raw = trimmed(text);
@@ -82,8 +84,7 @@ fn content_in(content: &[u8]) -> Result<LentContent<'_>, TextKind>
     }
 }
 
-/// What a line says, or its first fault.
-pub fn content_of(line: &[u8]) -> Result<LentContent<'_>, TextKind>
+fn content_of_any(line: &[u8]) -> Result<LentContent<'_>, TextKind>
     ensures { Gives seen result (content_of line.now) }
 {
     let visible = before_comment(without_cr(line));
@@ -91,4 +92,21 @@ pub fn content_of(line: &[u8]) -> Result<LentContent<'_>, TextKind>
         return Err(TextKind::BadByte);
     }
     content_in(trimmed(visible))
+}
+
+fn content_of_setting<'a>(name: &'a [u8], behind: &'a [u8]) -> Result<LentContent<'a>, TextKind>
+    ensures { Gives seen result (setting_before name.now behind.now) }
+{
+    let value = value_behind(behind)?;
+    Ok(LentContent::Setting(name, value))
+}
+
+/// What a line says, or its first fault. A setting, as most lines are, is seen by its front.
+pub fn content_of(line: &[u8]) -> Result<LentContent<'_>, TextKind>
+    ensures { Gives seen result (content_of line.now) }
+{
+    match setting_front(line) {
+        Some((name, behind)) => content_of_setting(name, behind),
+        None => content_of_any(line),
+    }
 }

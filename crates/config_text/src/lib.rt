@@ -21,6 +21,7 @@ mod links;
 mod parts;
 mod reading;
 mod sections;
+mod setting_line;
 mod settings;
 mod text_fault;
 mod text_kind;

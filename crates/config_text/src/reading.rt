@@ -84,6 +84,8 @@ fn add_section(config: &mut Config, alloc: Global, name: &[u8]) -> Result<(), Li
     if let Some(kind) = section_fault(config, &name) {
         return Err(LineFault::Fault(kind));
     }
+    // The section above gets no further setting.
+    config.sections.shrink_last();
     config.sections.push(name, Settings::new(alloc))?;
     Ok(())
 }

@@ -101,8 +101,19 @@ impl Sections {
         ensures err { OnErr result (self.new ≡ self.old) }
     {
         match self.entries.last_mut() {
-            None => Ok(()),
+            None => unreachable!(),
             Some(settings) => settings.push(name, value),
+        }
+    }
+}
+
+impl Sections {
+    /// Gives back the memory that the last section keeps for further settings.
+    pub(crate) fn shrink_last(&mut self)
+        ensures { self.new ≡ self.old }
+    {
+        if let Some(settings) = self.entries.last_mut() {
+            settings.shrink_to_fit();
         }
     }
 }

@@ -90,6 +90,15 @@ impl Settings {
     }
 }
 
+impl Settings {
+    /// Gives back the memory that was kept for further settings.
+    pub(crate) fn shrink_to_fit(&mut self)
+        ensures { self.new ≡ self.old }
+    {
+        self.entries.shrink_to_fit();
+    }
+}
+
 impl TryCopy for Settings {
     fn copy(&self, alloc: Global) -> Result<Settings, NoMemory> {
         let mut copied = Settings::new(alloc);

@@ -8,3 +8,4 @@ pub mod Standard
 pub mod Times
 pub mod TimeTexts
 pub mod Wants
+pub mod Held

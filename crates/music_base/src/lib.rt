@@ -14,6 +14,7 @@ mod memory_source;
 mod name;
 mod numbers;
 mod outside;
+mod short_bytes;
 mod standard;
 mod streams;
 mod time_laws;

@@ -5,28 +5,50 @@ ghost use Rattle.std.specs.Hash as fed;
 ghost use Rattle.std.specs.List.{list_all};
 ghost use Rattle.std.proofs.Common.{rules};
 ghost use Rattle.music_base.specs.Names.{is_name, begins_name, is_in_names};
+ghost use Rattle.music_base.specs.Held.{name_bytes};
 
+use crate::short_bytes::ShortBytes;
 use crate::{NoMemory, TryCopy};
 use std::alloc::Global;
 use std::hash::{Hash, Hasher};
 use std::marker::Model;
 
+// The bytes of a name: up to 14 in the value itself, and more in memory of their own.
+#[derive(Debug, Drop)]
+enum NameBytes {
+    Short(ShortBytes<14>),
+    Long(Box<Vec<u8>>),
+}
+
+fn name_bytes(alloc: Global, bytes: &[u8]) -> Result<NameBytes, NoMemory>
+    ensures { IfOk result (λ held. name_bytes held ≡ bytes.now) }
+{
+    match ShortBytes::from_slice(bytes) {
+        Some(short) => Ok(NameBytes::Short(short)),
+        None => {
+            let long = Vec::from_slice(alloc, bytes)?;
+            Ok(NameBytes::Long(Box::new(alloc, long)?))
+        }
+    }
+}
+
 /// The name of an application, a port or a setting: 1 to 64 letters, digits and `_`, of which the first is no digit.
 /// Contracts see its bytes.
 #[derive(Debug, Drop)]
 pub struct Name {
-    bytes: Vec<u8>,
+    bytes: NameBytes,
 }
 
 impl Model for Name {
     ghost use Rattle.std.specs.Prelude.{List, ℕ, ◌≡◌, true};
     ghost use Rattle.music_base.specs.Names.{is_name};
+    ghost use Rattle.music_base.specs.Held.{name_bytes};
 
     ghost Value = { List ℕ };
 
-    ghost view = { λ name. name.bytes.items };
+    ghost view = { λ name. name_bytes name.bytes };
 
-    ghost invariant = { λ name. is_name name.bytes.items ≡ true };
+    ghost invariant = { λ name. is_name (name_bytes name.bytes) ≡ true };
 }
 
 fn begins_name(byte: u8) -> bool
@@ -60,7 +82,7 @@ impl Name {
         requires { is_name bytes.now ≡ true }
         ensures { IfOk result (λ name. name ≡ bytes.now) }
     {
-        let bytes = Vec::from_slice(alloc, bytes)?;
+        let bytes = name_bytes(alloc, bytes)?;
         Ok(Name { bytes })
     }
 
@@ -68,7 +90,10 @@ impl Name {
         ensures bytes { result.now ≡ self.now }
         ensures name { is_name self.now ≡ true }
     {
-        self.bytes.as_slice()
+        match &self.bytes {
+            NameBytes::Short(bytes) => bytes.as_slice(),
+            NameBytes::Long(bytes) => bytes.as_slice(),
+        }
     }
 }
 
@@ -84,7 +109,7 @@ impl PartialEq for Name {
     ghost laws = { Prim.search (comparing, rules) };
 
     fn eq(&self, other: &Name) -> bool {
-        self.bytes.as_slice() == other.bytes.as_slice()
+        self.as_slice() == other.as_slice()
     }
 }
 
@@ -98,6 +123,6 @@ impl Hash for Name {
     ghost respects_eq = { Prim.search (hashing, rules) };
 
     fn hash<H: Hasher>(&self, state: &mut H) {
-        self.bytes.as_slice().hash(state);
+        self.as_slice().hash(state);
     }
 }

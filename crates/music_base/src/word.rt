@@ -3,22 +3,31 @@ ghost use Rattle.std.specs.Cmp.Lexicographic.{pointwise};
 ghost use Rattle.std.specs.Cmp.Rules.{comparing};
 ghost use Rattle.std.proofs.Common.{rules};
 
+use crate::short_bytes::ShortBytes;
 use crate::{NoMemory, TryCopy};
 use std::alloc::Global;
 use std::marker::Model;
 
+// The bytes of a word: up to 30 in the value itself, and more in memory of their own.
+#[derive(Debug, Drop)]
+enum WordBytes {
+    Short(ShortBytes<30>),
+    Long(Vec<u8>),
+}
+
 /// A text of any bytes. Contracts see its bytes.
 #[derive(Debug, Drop)]
 pub struct Word {
-    bytes: Vec<u8>,
+    bytes: WordBytes,
 }
 
 impl Model for Word {
     ghost use Rattle.std.specs.Prelude.{List, ℕ};
+    ghost use Rattle.music_base.specs.Held.{word_bytes};
 
     ghost Value = { List ℕ };
 
-    ghost view = { λ word. word.bytes.items };
+    ghost view = { λ word. word_bytes word.bytes };
 }
 
 impl Word {
@@ -26,21 +35,30 @@ impl Word {
     pub fn from_vec(bytes: Vec<u8>) -> Word
         ensures { result ≡ bytes.items }
     {
-        Word { bytes }
+        Word {
+            bytes: WordBytes::Long(bytes),
+        }
     }
 
     /// A word of the same bytes.
     pub fn from_slice(alloc: Global, bytes: &[u8]) -> Result<Word, NoMemory>
         ensures { IfOk result (λ word. word ≡ bytes.now) }
     {
-        let bytes = Vec::from_slice(alloc, bytes)?;
-        Ok(Word { bytes })
+        match ShortBytes::from_slice(bytes) {
+            Some(short) => Ok(Word {
+                bytes: WordBytes::Short(short),
+            }),
+            None => Ok(Word::from_vec(Vec::from_slice(alloc, bytes)?)),
+        }
     }
 
     pub fn as_slice(&self) -> &[u8]
         ensures { result.now ≡ self.now }
     {
-        self.bytes.as_slice()
+        match &self.bytes {
+            WordBytes::Short(bytes) => bytes.as_slice(),
+            WordBytes::Long(bytes) => bytes.as_slice(),
+        }
     }
 }
 
