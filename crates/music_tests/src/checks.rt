@@ -1,7 +1,8 @@
 //! The command `check`: each kind of fault, each limit and what lies past it, the first of two faults, and cycles of waits.
-use crate::cycle_rows::{CYCLE_EXAMPLES, LOOPS, OWN_LOOPS, PATHS, ROOM, VALUE_LOOPS};
+use crate::cycle_rows::{CYCLE_EXAMPLES, LOOPS, OWN_LOOPS, PATHS, VALUE_LOOPS};
 use crate::port_rows::{CONNECTIONS, PORTS, PORTS_OF_TWO};
 use crate::ring_rows::{RING_BACK, RING_FRONT, RING_LATENCIES};
+use crate::room_rows::ROOM;
 use crate::rows::Row;
 use crate::rule_rows::RULES;
 use crate::scene_rows::{EXAMPLES, ORDERS, PERIODS, SETTINGS, STEPS, WHOLE_TEXTS, WORKED_SCENES};

@@ -16,6 +16,8 @@ mod refused_memory;
 #[cfg(test)]
 mod ring_rows;
 #[cfg(test)]
+mod room_rows;
+#[cfg(test)]
 mod rows;
 #[cfg(test)]
 mod rule_rows;
