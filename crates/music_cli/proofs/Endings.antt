@@ -21,7 +21,7 @@ use Rattle.scene_model.specs.Logs.{log_of}
 use Rattle.scene_model.specs.Waits.{IsAccepted, stated_limits, waits}
 use Rattle.scene_model.specs.declared.scene.Scene.{Scene}
 use Rattle.scene_model.specs.declared.wait.Wait.{Wait}
-use Rattle.scene_model.proofs.AcceptedOrTold.{accepted_or_told, not_both}
+use Rattle.scene_model.proofs.AcceptedOrTold.{accepted_is_live, accepted_or_told, not_both}
 use Rattle.cycle_check.specs.CycleTexts.{cycle_text}
 use Rattle.music_setup.specs.Scenes.{scene_of}
 use Rattle.music_setup.specs.Texts.{text_of_fault}
@@ -29,11 +29,12 @@ use Rattle.music_setup.specs.declared.fault.SetupFault.{SetupFault}
 use Rattle.music_setup.specs.declared.fault.SetupFault.TheVariants as setup
 use Rattle.music_setup.proofs.Faultless.{scene_is_faultless}
 use Rattle.plain_run.specs.Plain as plain
+use Rattle.music_cli.specs.PlanTexts.{plan_text}
 use Rattle.music_cli.specs.Words.{command_of, are_accepted}
-use Rattle.music_cli.specs.Answers.{AnswersUncovered, AnswersChecked, AnswersScene, AnswersForm, AnswersConfig, AnswersText, AnswersCommand, Answers, CanDo, CanDoWith, number_of, status_of, outcomes_of, usage_text, read_fault_text, ok_text}
+use Rattle.music_cli.specs.Answers.{AnswersUncovered, AnswersChecked, AnswersPlanned, AnswersScene, AnswersForm, AnswersConfig, AnswersText, AnswersCommand, Answers, CanDo, CanDoWith, number_of, status_of, outcomes_of, scene_outcomes, usage_text, read_fault_text, ok_text}
 use Rattle.music_cli.specs.Clauses.{Ends, ends, most_read, read_part, IsStatus, HasAnswer, HasPrefix, IsComplete, WasRead, IsSaid, IsGiven, IsRead, Ended, refused, unread, unfound, answered}
 use Rattle.music_cli.specs.declared.command_line.Command.{Command}
-use Rattle.music_cli.specs.declared.command_line.Command.TheVariants.{Check, Run}
+use Rattle.music_cli.specs.declared.command_line.Command.TheVariants.{Check, Plan, Run}
 use Rattle.music_cli.specs.declared.status.Status.{Status}
 use Rattle.music_cli.specs.declared.status.Status.TheVariants.{Done, Usage, TextFault, CycleFault, ReadFault, WriteFault, NoMemory}
 
@@ -72,9 +73,22 @@ checked_answer scene faultless = elim (accepted_or_told scene faultless) [
   | inr told ↦ (CycleFault, cycle_text scene told.0, inl (told.0, told.1, refl, refl))
 ]
 
-scene_answer : (config : Config) (found : Result Scene SetupFault) → IfOk found IsFaultless → (status : Status) × (text : List ℕ) × AnswersScene config found status text
-scene_answer config (Ok scene) faultless = checked_answer scene faultless
-scene_answer config (Err fault) faultless = (status_of fault, text_of_fault (Some config) fault, (refl, refl))
+planned_answer : (scene : Scene) → IsFaultless scene → (status : Status) × (text : List ℕ) × AnswersPlanned scene status text
+planned_answer scene faultless = elim (accepted_or_told scene faultless) [
+  | inl accepted ↦
+      let live = accepted_is_live scene faultless accepted in
+      (Done, plan_text scene live.0, inr (accepted, live.0, live.1, (refl, refl)))
+  | inr told ↦ (CycleFault, cycle_text scene told.0, inl (told.0, told.1, refl, refl))
+]
+
+-- each scene without a fault has such an answer
+abbrev HasAnswers : (Scene → Status → List ℕ → Type 0) → Type 0
+HasAnswers of_scene = (scene : Scene) → IsFaultless scene → (status : Status) × (text : List ℕ) × of_scene scene status text
+
+scene_answer : (of_scene : Scene → Status → List ℕ → Type 0) (config : Config) (found : Result Scene SetupFault) → HasAnswers of_scene → IfOk found IsFaultless
+    → (status : Status) × (text : List ℕ) × AnswersScene of_scene config found status text
+scene_answer of_scene config (Ok scene) answer faultless = answer scene faultless
+scene_answer of_scene config (Err fault) answer faultless = (status_of fault, text_of_fault (Some config) fault, (refl, refl))
 
 -- the scene that a lawful configuration describes, if any, has no fault
 pub lawful_is_faultless : (config : Config) → is_lawful_config config ≡ true → IfOk (scene_of config) IsFaultless
@@ -89,7 +103,8 @@ lawful_is_faultless config lawful =
     go (Err fault) each = tt
 
 config_answer : (command : Command) (config : Config) (bytes : List ℕ) → is_lawful_config config ≡ true → (status : Status) × (text : List ℕ) × AnswersConfig command config bytes status text
-config_answer Check config bytes lawful = scene_answer config (scene_of config) (lawful_is_faultless config lawful)
+config_answer Check config bytes lawful = scene_answer AnswersChecked config (scene_of config) checked_answer (lawful_is_faultless config lawful)
+config_answer Plan config bytes lawful = scene_answer AnswersPlanned config (scene_of config) planned_answer (lawful_is_faultless config lawful)
 config_answer Run config bytes lawful = form_answer (first_form bytes)
 
 right_answer : (command : Command) (bytes : List ℕ) (config : Config) → Spells config bytes → (status : Status) × (text : List ℕ) × AnswersText command bytes status text
@@ -125,15 +140,26 @@ checked_done scene status text accepted answers = elim answers [
   | inr done ↦ done.1.0
 ]
 
-scene_done : (config : Config) (found : Result Scene SetupFault) (status : Status) (text : List ℕ) → (scene : Scene) → found ≡ Ok scene → IsAccepted scene → AnswersScene config found status text
-    → status ≡ Done
-scene_done config (Ok found) status text scene is accepted answers =
+planned_done : (scene : Scene) (status : Status) (text : List ℕ) → IsAccepted scene → AnswersPlanned scene status text → status ≡ Done
+planned_done scene status text accepted answers = elim answers [
+  | inl uncovered ↦ absurd (not_both scene uncovered.0 accepted uncovered.1)
+  | inr done ↦ done.3.0
+]
+
+-- of an accepted scene all answers are that something is done
+abbrev AreDone : (Scene → Status → List ℕ → Type 0) → Type 0
+AreDone of_scene = (scene : Scene) (status : Status) (text : List ℕ) → IsAccepted scene → of_scene scene status text → status ≡ Done
+
+scene_done : (of_scene : Scene → Status → List ℕ → Type 0) (config : Config) (found : Result Scene SetupFault) (status : Status) (text : List ℕ) → AreDone of_scene
+    → (scene : Scene) → found ≡ Ok scene → IsAccepted scene → AnswersScene of_scene config found status text → status ≡ Done
+scene_done of_scene config (Ok found) status text done scene is accepted answers =
     let same : found ≡ scene = cc in
-    checked_done found status text (subst IsAccepted (sym same) accepted) answers
-scene_done config (Err fault) status text scene is accepted answers = absurd cc
+    done found status text (subst IsAccepted (sym same) accepted) answers
+scene_done of_scene config (Err fault) status text done scene is accepted answers = absurd cc
 
 config_done : (command : Command) (config : Config) (bytes : List ℕ) (status : Status) (text : List ℕ) → CanDoWith command config bytes → AnswersConfig command config bytes status text → status ≡ Done
-config_done Check config bytes status text can answers = scene_done config (scene_of config) status text can.0 can.1 can.2 answers
+config_done Check config bytes status text can answers = scene_done AnswersChecked config (scene_of config) status text checked_done can.0 can.1 can.2 answers
+config_done Plan config bytes status text can answers = scene_done AnswersPlanned config (scene_of config) status text planned_done can.0 can.1 can.2 answers
 config_done Run config bytes status text can answers = form_done (first_form bytes) status text can answers
 
 -- a text spells one configuration
@@ -151,28 +177,37 @@ form_outcome : (found : Result FirstForm (ℕ × TextKind)) (status : Status) (t
 form_outcome (Ok form) status text answers = (0, lit< tt, sym answers.0)
 form_outcome (Err fault) status text answers = (1, lit< tt, sym answers.0)
 
-fault_outcome : (fault : SetupFault) (status : Status) → status ≡ status_of fault → Contains (outcomes_of (Some Check)) status
+fault_outcome : (fault : SetupFault) (status : Status) → status ≡ status_of fault → Contains scene_outcomes status
 fault_outcome (setup.Text line kind) status is = (1, lit< tt, sym is)
 fault_outcome (setup.Scene fault) status is = (2, lit< tt, sym is)
 fault_outcome (setup.Link place what) status is = (2, lit< tt, sym is)
 fault_outcome setup.Memory status is = (6, lit< tt, sym is)
 
-checked_outcome : (scene : Scene) (status : Status) (text : List ℕ) → AnswersChecked scene status text → Contains (outcomes_of (Some Check)) status
+checked_outcome : (scene : Scene) (status : Status) (text : List ℕ) → AnswersChecked scene status text → Contains scene_outcomes status
 checked_outcome scene status text answers = elim answers [
   | inl uncovered ↦ (3, lit< tt, sym uncovered.2)
   | inr done ↦ (0, lit< tt, sym done.1.0)
 ]
 
-scene_outcome : (config : Config) (found : Result Scene SetupFault) (status : Status) (text : List ℕ) → AnswersScene config found status text → Contains (outcomes_of (Some Check)) status
-scene_outcome config (Ok scene) status text answers = checked_outcome scene status text answers
-scene_outcome config (Err fault) status text answers = fault_outcome fault status answers.0
+planned_outcome : (scene : Scene) (status : Status) (text : List ℕ) → AnswersPlanned scene status text → Contains scene_outcomes status
+planned_outcome scene status text answers = elim answers [
+  | inl uncovered ↦ (3, lit< tt, sym uncovered.2)
+  | inr done ↦ (0, lit< tt, sym done.3.0)
+]
+
+scene_outcome : (of_scene : Scene → Status → List ℕ → Type 0) (config : Config) (found : Result Scene SetupFault) (status : Status) (text : List ℕ)
+    → ((scene : Scene) → of_scene scene status text → Contains scene_outcomes status) → AnswersScene of_scene config found status text → Contains scene_outcomes status
+scene_outcome of_scene config (Ok scene) status text outcome answers = outcome scene answers
+scene_outcome of_scene config (Err fault) status text outcome answers = fault_outcome fault status answers.0
 
 config_outcome : (command : Command) (config : Config) (bytes : List ℕ) (status : Status) (text : List ℕ) → AnswersConfig command config bytes status text → Contains (outcomes_of (Some command)) status
-config_outcome Check config bytes status text answers = scene_outcome config (scene_of config) status text answers
+config_outcome Check config bytes status text answers = scene_outcome AnswersChecked config (scene_of config) status text (λ scene is. checked_outcome scene status text is) answers
+config_outcome Plan config bytes status text answers = scene_outcome AnswersPlanned config (scene_of config) status text (λ scene is. planned_outcome scene status text is) answers
 config_outcome Run config bytes status text answers = form_outcome (first_form bytes) status text answers
 
 text_fault_outcome : (command : Command) (status : Status) → status ≡ TextFault → Contains (outcomes_of (Some command)) status
 text_fault_outcome Check status is = (1, lit< tt, sym is)
+text_fault_outcome Plan status is = (1, lit< tt, sym is)
 text_fault_outcome Run status is = (1, lit< tt, sym is)
 
 answer_outcome : (command : Option Command) (bytes : List ℕ) (status : Status) (text : List ℕ) → AnswersCommand command bytes status text → Contains (outcomes_of command) status
@@ -185,16 +220,19 @@ answer_outcome (Some command) bytes status text answers = elim answers [
 write_fault_outcome : (command : Option Command) → Contains (outcomes_of command) WriteFault
 write_fault_outcome None = (1, lit< tt, refl)
 write_fault_outcome (Some Check) = (5, lit< tt, refl)
+write_fault_outcome (Some Plan) = (5, lit< tt, refl)
 write_fault_outcome (Some Run) = (3, lit< tt, refl)
 
 read_fault_outcome : (command : Option Command) → is_some command ≡ true → Contains (outcomes_of command) ReadFault
 read_fault_outcome None some = absurd cc
 read_fault_outcome (Some Check) some = (4, lit< tt, refl)
+read_fault_outcome (Some Plan) some = (4, lit< tt, refl)
 read_fault_outcome (Some Run) some = (2, lit< tt, refl)
 
 memory_outcome : (command : Option Command) → is_some command ≡ true → Contains (outcomes_of command) NoMemory
 memory_outcome None some = absurd cc
 memory_outcome (Some Check) some = (6, lit< tt, refl)
+memory_outcome (Some Plan) some = (6, lit< tt, refl)
 memory_outcome (Some Run) some = (4, lit< tt, refl)
 
 -- ---- an answer that was given
@@ -213,8 +251,19 @@ told_unfound scene cycle before faults told = given_none (AnswersUncovered scene
 pub checked_unfound : (scene : Scene) (before : Option (List ℕ)) (faults : ℕ) → IsFaultless scene → IsGiven (AnswersChecked scene) (ends before before faults faults) NoMemory
 checked_unfound scene before faults faultless = given_none (AnswersChecked scene) before faults (checked_answer scene faultless)
 
-pub scene_unfound : (config : Config) (before : Option (List ℕ)) (faults : ℕ) → is_lawful_config config ≡ true → IsGiven (AnswersScene config (scene_of config)) (ends before before faults faults) NoMemory
-scene_unfound config before faults lawful = given_none (AnswersScene config (scene_of config)) before faults (scene_answer config (scene_of config) (lawful_is_faultless config lawful))
+pub planned_unfound : (scene : Scene) (before : Option (List ℕ)) (faults : ℕ) → IsFaultless scene → IsGiven (AnswersPlanned scene) (ends before before faults faults) NoMemory
+planned_unfound scene before faults faultless = given_none (AnswersPlanned scene) before faults (planned_answer scene faultless)
+
+-- where memory gave out before the scene was read
+pub checked_unread : (config : Config) (before : Option (List ℕ)) (faults : ℕ) → is_lawful_config config ≡ true
+    → IsGiven (AnswersScene AnswersChecked config (scene_of config)) (ends before before faults faults) NoMemory
+checked_unread config before faults lawful =
+    given_none (AnswersScene AnswersChecked config (scene_of config)) before faults (scene_answer AnswersChecked config (scene_of config) checked_answer (lawful_is_faultless config lawful))
+
+pub planned_unread : (config : Config) (before : Option (List ℕ)) (faults : ℕ) → is_lawful_config config ≡ true
+    → IsGiven (AnswersScene AnswersPlanned config (scene_of config)) (ends before before faults faults) NoMemory
+planned_unread config before faults lawful =
+    given_none (AnswersScene AnswersPlanned config (scene_of config)) before faults (scene_answer AnswersPlanned config (scene_of config) planned_answer (lawful_is_faultless config lawful))
 
 pub text_unfound : (command : Command) (bytes : List ℕ) (before : Option (List ℕ)) (faults : ℕ) → IsGiven (AnswersText command bytes) (ends before before faults faults) NoMemory
 text_unfound command bytes before faults = given_none (AnswersText command bytes) before faults (text_answer command bytes)

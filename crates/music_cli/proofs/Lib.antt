@@ -1,3 +1,4 @@
 pub mod ToldCycles
+pub mod PlanLines
 pub mod Endings
 pub mod LiveScenes

@@ -18,9 +18,10 @@ use Rattle.music_setup.specs.Texts.{line_end, text_of_fault}
 use Rattle.music_setup.specs.declared.fault.SetupFault.{SetupFault}
 use Rattle.music_setup.specs.declared.fault.SetupFault.TheVariants as setup
 use Rattle.plain_run.specs.Plain as plain
+use Rattle.music_cli.specs.PlanTexts.{plan_text}
 use Rattle.music_cli.specs.Words.{command_of}
 use Rattle.music_cli.specs.declared.command_line.Command.{Command}
-use Rattle.music_cli.specs.declared.command_line.Command.TheVariants.{Check, Run}
+use Rattle.music_cli.specs.declared.command_line.Command.TheVariants.{Check, Plan, Run}
 use Rattle.music_cli.specs.declared.status.Status.{Status}
 use Rattle.music_cli.specs.declared.status.Status.TheVariants.{Done, Usage, TextFault, SceneFault, CycleFault, ReadFault, WriteFault, NoMemory}
 
@@ -44,10 +45,15 @@ status_of (setup.Scene _) = SceneFault
 status_of (setup.Link _ _) = SceneFault
 status_of setup.Memory = NoMemory
 
+-- the outcomes of a command that asks for the scene
+abbrev pub scene_outcomes : List Status
+scene_outcomes = Done ∷ TextFault ∷ SceneFault ∷ CycleFault ∷ ReadFault ∷ WriteFault ∷ NoMemory ∷ []
+
 -- the outcomes that can come at all: where the words are refused, and of each command
 abbrev pub outcomes_of : Option Command → List Status
 outcomes_of None = Usage ∷ WriteFault ∷ []
-outcomes_of (Some Check) = Done ∷ TextFault ∷ SceneFault ∷ CycleFault ∷ ReadFault ∷ WriteFault ∷ NoMemory ∷ []
+outcomes_of (Some Check) = scene_outcomes
+outcomes_of (Some Plan) = scene_outcomes
 outcomes_of (Some Run) = Done ∷ TextFault ∷ ReadFault ∷ WriteFault ∷ NoMemory ∷ []
 
 -- ---- texts
@@ -78,14 +84,19 @@ abbrev pub AnswersUncovered : Scene → Status → List ℕ → Type 0
 AnswersUncovered scene status text =
     (cycle : List Wait) × IsTold (waits scene (stated_limits scene)) cycle × (status ≡ CycleFault) × (text ≡ cycle_text scene cycle)
 
--- an accepted scene gets its size, and any other one a cycle that is not covered
+-- `check` answers the size of an accepted scene, and of any other one a cycle that is not covered
 abbrev pub AnswersChecked : Scene → Status → List ℕ → Type 0
 AnswersChecked scene status text = AnswersUncovered scene status text ⊎ (IsAccepted scene × AnswersDone (ok_text scene) status text)
 
--- `check` answers whether the scene that the configuration describes is accepted, or the first fault of the configuration
-abbrev pub AnswersScene : Config → Result Scene SetupFault → Status → List ℕ → Type 0
-AnswersScene config (Ok scene) = AnswersChecked scene
-AnswersScene config (Err fault) = AnswersFault (Some config) fault
+-- `plan` answers the limits of an accepted scene, and of any other one a cycle that is not covered
+abbrev pub AnswersPlanned : Scene → Status → List ℕ → Type 0
+AnswersPlanned scene status text =
+    AnswersUncovered scene status text ⊎ (IsAccepted scene × (limits : List ℕ) × AreLimits scene limits × AnswersDone (plan_text scene limits) status text)
+
+-- what is answered of the scene that the configuration describes, or the first fault of the configuration
+abbrev pub AnswersScene : (Scene → Status → List ℕ → Type 0) → Config → Result Scene SetupFault → Status → List ℕ → Type 0
+AnswersScene of_scene config (Ok scene) = of_scene scene
+AnswersScene of_scene config (Err fault) = AnswersFault (Some config) fault
 
 -- `run` answers the log of the scene where the text has the first form, and otherwise the line at which it leaves that form
 abbrev pub AnswersForm : Result FirstForm (ℕ × TextKind) → Status → List ℕ → Type 0
@@ -94,7 +105,8 @@ AnswersForm (Err fault) = AnswersFault None (setup.Text fault.0 fault.1)
 
 -- what a command answers to a configuration and the bytes that spell it
 abbrev pub AnswersConfig : Command → Config → List ℕ → Status → List ℕ → Type 0
-AnswersConfig Check config bytes = AnswersScene config (scene_of config)
+AnswersConfig Check config bytes = AnswersScene AnswersChecked config (scene_of config)
+AnswersConfig Plan config bytes = AnswersScene AnswersPlanned config (scene_of config)
 AnswersConfig Run config bytes = AnswersForm (first_form bytes)
 
 -- a faulty text gets its first fault, whatever the command is
@@ -120,9 +132,15 @@ HasLiveLimits scene = (limits : List ℕ) × AreLimits scene limits × IsLive sc
 
 -- ---- what can be done
 
--- `check` is done where the configuration describes a scene that is accepted, `run` today where the text has the first form
+-- a scene that is accepted
+abbrev pub DescribesAccepted : Config → Type 0
+DescribesAccepted config = (scene : Scene) × (scene_of config ≡ Ok scene) × IsAccepted scene
+
+-- `check` and `plan` are done where the configuration describes an accepted scene, `run` today where the text has the first
+-- form
 abbrev pub CanDoWith : Command → Config → List ℕ → Type 0
-CanDoWith Check config bytes = (scene : Scene) × (scene_of config ≡ Ok scene) × IsAccepted scene
+CanDoWith Check config bytes = DescribesAccepted config
+CanDoWith Plan config bytes = DescribesAccepted config
 CanDoWith Run config bytes = IsOk (first_form bytes)
 
 -- the bytes spell a configuration with which the command can be done

@@ -1,5 +1,5 @@
 -- What holds of each call of the program, over any source and any sink.
-use Rattle.std.specs.Prelude.{◌≡◌, ◌≢◌, ◌⊎◌, ℕ, ◌<◌, ◌≤◌, true, false, List, length, take, Option, Some, Ok, IsTrue, Contains}
+use Rattle.std.specs.Prelude.{⊤, ◌≡◌, ◌≢◌, ◌⊎◌, ℕ, ◌<◌, ◌≤◌, true, false, List, length, take, Option, Some, Ok, IsTrue, Contains}
 use Rattle.music_base.specs.Causes.{Rose}
 use Rattle.music_base.specs.Outside.{Gave, IsAtEnd, Took, TookPrefix}
 use Rattle.config_text.specs.Text.{Spells}
@@ -9,7 +9,7 @@ use Rattle.music_setup.specs.Scenes.{scene_of}
 use Rattle.music_cli.specs.Words.{command_of, are_accepted}
 use Rattle.music_cli.specs.Answers.{Answers, CanDo, HasLiveLimits, number_of, outcomes_of, usage_text, read_fault_text}
 use Rattle.music_cli.specs.declared.command_line.Command.{Command}
-use Rattle.music_cli.specs.declared.command_line.Command.TheVariants.{Check}
+use Rattle.music_cli.specs.declared.command_line.Command.TheVariants.{Check, Plan, Run}
 use Rattle.music_cli.specs.declared.status.Status.{Status}
 use Rattle.music_cli.specs.declared.status.Status.TheVariants.{Done, Usage, ReadFault, WriteFault, NoMemory}
 
@@ -106,9 +106,15 @@ abbrev pub IsComplete : List (List ℕ) → Ends → Ends → ℕ → Type 0
 IsComplete words source sink result = (command : Command) (bytes : List ℕ) → command_of words ≡ Some command → source.before ≡ Some bytes → CanDo command (read_part bytes) →
     (Failed source → ⊥) → (Failed sink → ⊥) → (result ≡ number_of Done) ⊎ (result ≡ number_of NoMemory)
 
--- where `check` is done, the bytes spell a configuration whose scene has limits under which it is live
+-- the command asks for the scene that the configuration describes
+abbrev pub AsksForScene : Command → Type 0
+AsksForScene Check = ⊤
+AsksForScene Plan = ⊤
+AsksForScene Run = ⊥
+
+-- where such a command is done, the bytes spell a configuration whose scene has limits under which it is live
 abbrev pub IsLiveWhenDone : List (List ℕ) → Ends → ℕ → Type 0
-IsLiveWhenDone words source result = (bytes : List ℕ) → source.before ≡ Some bytes → command_of words ≡ Some Check → result ≡ number_of Done →
+IsLiveWhenDone words source result = (command : Command) (bytes : List ℕ) → source.before ≡ Some bytes → command_of words ≡ Some command → AsksForScene command → result ≡ number_of Done →
     (config : Config) × Spells config (read_part bytes) × (scene : Scene) × (scene_of config ≡ Ok scene) × HasLiveLimits scene
 
 -- ---- how a call can end

@@ -1,3 +1,4 @@
 pub mod Words
+pub mod PlanTexts
 pub mod Answers
 pub mod Clauses

@@ -6,6 +6,7 @@ ghost use Rattle.music_cli.specs.Answers.{AnswersConfig, AnswersText};
 ghost use Rattle.music_cli.specs.Clauses.{ends, IsGiven};
 
 use crate::checking::check;
+use crate::planning::plan;
 use crate::running::run;
 use crate::saying::refuse;
 use crate::{Command, Status};
@@ -27,6 +28,7 @@ fn answer_config<K: Sink>(
 {
     match command {
         Command::Check => check(alloc, config, sink),
+        Command::Plan => plan(alloc, config, sink),
         Command::Run => run(alloc, bytes, sink),
     }
 }

@@ -1,18 +1,16 @@
 //! The command `check`.
 ghost use Rattle.std.specs.Prelude.{◌≡◌, true, IfOk, IfErr};
 ghost use Rattle.config_text.specs.Canon.{is_lawful_config};
-ghost use Rattle.scene_model.specs.Cover.{IsTold};
 ghost use Rattle.scene_model.specs.Faults.{IsFaultless};
 ghost use Rattle.scene_model.specs.Waits.{IsAccepted, stated_limits, waits};
 ghost use Rattle.tick_plan.specs.Faults.{TellsUncovered};
 ghost use Rattle.music_setup.specs.Scenes.{scene_of};
-ghost use Rattle.music_cli.specs.Answers.{ok_text, AnswersChecked, AnswersDone, AnswersScene, AnswersUncovered};
+ghost use Rattle.music_cli.specs.Answers.{ok_text, AnswersChecked, AnswersDone, AnswersScene};
 ghost use Rattle.music_cli.specs.Clauses.{ends, IsGiven};
 
 use crate::Status;
-use crate::saying::{refuse, say};
+use crate::saying::{refuse, say, say_cycle};
 use config_text::Config;
-use cycle_check::{Cycle, write_cycle};
 use itoa::Buffer;
 use latency_graph::stated_limits;
 use music_base::{NoMemory, Sink};
@@ -44,18 +42,6 @@ fn say_size<K: Sink>(alloc: Global, scene: &Scene, sink: &mut K) -> Status
     }
 }
 
-// Says which waits of the scene make up a cycle that is not covered.
-fn say_cycle<K: Sink>(alloc: Global, scene: &Scene, cycle: &Cycle, sink: &mut K) -> Status
-    requires faultless { IsFaultless scene.now }
-    requires told { IsTold (waits scene.now (stated_limits scene.now)) cycle.now.0.items }
-    ensures { IsGiven (AnswersUncovered scene.now) (ends (K.taken sink.old) (K.taken sink.new) (K.faults sink.old) (K.faults sink.new)) result }
-{
-    match write_cycle(alloc, scene, cycle) {
-        Ok(text) => say(sink, Status::CycleFault, &text),
-        Err(NoMemory) => Status::NoMemory,
-    }
-}
-
 // Accepts the scene, or finds a cycle of its waits under stated limits that is not covered.
 fn accept(alloc: Global, scene: &Scene) -> Result<(), NegotiateFault>
     requires { IsFaultless scene.now }
@@ -83,7 +69,7 @@ fn check_scene<K: Sink>(alloc: Global, scene: &Scene, sink: &mut K) -> Status
 /// cycle that is not covered. The configuration is one that a text spells.
 pub fn check<K: Sink>(alloc: Global, config: &Config, sink: &mut K) -> Status
     requires { is_lawful_config config.now ≡ true }
-    ensures { IsGiven (AnswersScene config.now (scene_of config.now)) (ends (K.taken sink.old) (K.taken sink.new) (K.faults sink.old) (K.faults sink.new)) result }
+    ensures { IsGiven (AnswersScene AnswersChecked config.now (scene_of config.now)) (ends (K.taken sink.old) (K.taken sink.new) (K.faults sink.old) (K.faults sink.new)) result }
 {
     match read_scene(alloc, config) {
         Ok(scene) => check_scene(alloc, &scene, sink),

@@ -6,6 +6,9 @@ ghost use Rattle.music_cli.specs.Words.{command_of, texts};
 pub enum Command {
     /// Say how large the scene is that the text describes, or its first fault, or a cycle of its waits that is not covered.
     Check,
+    /// Write how many blocks each connection of the scene keeps at most, or its first fault, or a cycle of its waits that is
+    /// not covered.
+    Plan,
     /// Run the scene and write its log.
     Run,
 }
@@ -16,6 +19,7 @@ pub fn command_of(words: &[String]) -> Option<Command>
 {
     match words {
         [word] if word.as_bytes() == b"check".as_slice() => Some(Command::Check),
+        [word] if word.as_bytes() == b"plan".as_slice() => Some(Command::Plan),
         [word] if word.as_bytes() == b"run".as_slice() => Some(Command::Run),
         _ => None,
     }

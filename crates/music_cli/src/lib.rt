@@ -4,6 +4,8 @@
 mod answering;
 mod checking;
 mod command_line;
+mod plan_text;
+mod planning;
 mod running;
 mod saying;
 mod status;

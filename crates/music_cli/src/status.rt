@@ -5,7 +5,7 @@ use music_setup::SetupFault;
 /// How a call ended. The program exits with its number.
 #[derive(Clone, Copy, Debug, PartialEq, Eq)]
 pub enum Status {
-    /// The log was written, or the line `ok: A applications, L connections`.
+    /// The log was written, or the plan, or the line `ok: A applications, L connections`.
     Done,
     /// The words were refused, and the usage line was written.
     Usage,
@@ -13,7 +13,7 @@ pub enum Status {
     TextFault,
     /// The configuration describes no scene, and the line of its first fault was written.
     SceneFault,
-    /// Some applications of the scene can wait for each other for ever, and the cycle of their waits was written.
+    /// Some cycle of the scene's waits is not covered, and such a cycle was written.
     CycleFault,
     /// The source failed.
     ReadFault,

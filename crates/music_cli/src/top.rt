@@ -61,14 +61,15 @@ fn answer<S: Source, K: Sink>(
 
 /// Does all that the program does for one worker, and starts no thread.
 ///
-/// The words are those behind the program's name, and exactly the one word `check` or the one word `run` is accepted.
-/// The source is then read to its end, or one byte further than a text may be long. Written to the sink is what the
-/// command asks of the configuration that the text spells, or the line that says why there is none: by `check` how many
-/// applications and connections its scene has, or a cycle of the scene's waits that is not covered; by `run` the log of
-/// the scene. The answer is the program's exit status: 0 done, 2 wrong words, 3 a fault of the text, 4 a fault of the scene
-/// or of a connection, 5 a cycle of waits that is not covered, 6 the source failed, 7 the sink failed, 8 memory was not
-/// found. Today `run` serves texts of the first form alone and refuses any other one with status 3, so it never ends with 4
-/// or 5.
+/// The words are those behind the program's name, and exactly the one word `check`, `plan` or `run` is accepted. The source
+/// is then read to its end, or one byte further than a text may be long. Written to the sink is what the command asks of
+/// the configuration that the text spells, or the line that says why there is none: by `check` how many applications and
+/// connections its scene has, by `plan` how many blocks each connection keeps at most, and by both, where some cycle of
+/// the scene's waits is not covered, such a cycle; by `run` the log of the scene.
+///
+/// The answer is the program's exit status: 0 done, 2 wrong words, 3 a fault of the text, 4 a fault of the scene or of a
+/// connection, 5 a cycle of waits that is not covered, 6 the source failed, 7 the sink failed, 8 memory was not found.
+/// Today `run` serves texts of the first form alone and refuses any other one with status 3, so it never ends with 4 or 5.
 pub fn music_alone<S: Source, K: Sink>(
     alloc: Global,
     words: &Vec<String>,

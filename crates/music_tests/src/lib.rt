@@ -10,6 +10,10 @@ mod checks;
 #[cfg(test)]
 mod cycle_rows;
 #[cfg(test)]
+mod plan_rows;
+#[cfg(test)]
+mod plans;
+#[cfg(test)]
 mod port_rows;
 #[cfg(test)]
 mod refused_memory;

@@ -1,6 +1,6 @@
 use Rattle.music_cli.proofs.Endings.{told_unfound}
 use Rattle.music_cli.proofs.ToldCycles.{told_between, told_bounded, told_short}
-use Rattle.music_cli.proofs.checking.say_cycle.Goals as goal
+use Rattle.music_cli.proofs.saying.say_cycle.Goals as goal
 
 pub write_cycle-requires : goal.write_cycle-requires
 write_cycle-requires g c =

@@ -1,0 +1,9 @@
+use Rattle.music_setup.proofs.OfConfig.{fault_of_config}
+use Rattle.music_cli.proofs.Endings.{planned_unread}
+use Rattle.music_cli.proofs.planning.plan.Goals as goal
+
+pub refuse-requires : goal.refuse-requires
+refuse-requires g c = fault_of_config c.args.config.now c.in-Err.fault c.in-Err.ensures.fault c.in_default.not-Memory
+
+pub returns-in-Memory : goal.returns-in-Memory
+returns-in-Memory g c = planned_unread _ _ _ c.requires

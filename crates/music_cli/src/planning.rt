@@ -1,0 +1,61 @@
+//! The command `plan`.
+ghost use Rattle.std.specs.Prelude.{◌≡◌, true, map};
+ghost use Rattle.std.specs.Option.{is_some};
+ghost use Rattle.config_text.specs.Canon.{is_lawful_config};
+ghost use Rattle.scene_model.specs.Faults.{IsFaultless};
+ghost use Rattle.scene_model.specs.Waits.{AreLimits, stated_limits};
+ghost use Rattle.music_setup.specs.Scenes.{scene_of};
+ghost use Rattle.music_cli.specs.Answers.{AnswersDone, AnswersPlanned, AnswersScene};
+ghost use Rattle.music_cli.specs.Clauses.{ends, IsGiven};
+ghost use Rattle.music_cli.specs.PlanTexts.{plan_text};
+
+use crate::Status;
+use crate::plan_text::plan_text;
+use crate::saying::{refuse, say, say_cycle};
+use config_text::Config;
+use music_base::{NoMemory, Sink};
+use music_setup::{SetupFault, read_scene};
+use scene_model::Scene;
+use std::alloc::Global;
+use tick_plan::{NegotiateFault, Plan, negotiate};
+
+// Says how many blocks each connection keeps at most.
+fn say_plan<K: Sink>(alloc: Global, scene: &Scene, plan: &Plan, sink: &mut K) -> Status
+    requires scene { IsFaultless scene.now }
+    requires limits { AreLimits scene.now plan.now.limits.items }
+    requires stated { plan.now.stated.items ≡ map is_some (stated_limits scene.now) }
+    ensures { IsGiven (AnswersDone (plan_text scene.now plan.now.limits.items)) (ends (K.taken sink.old) (K.taken sink.new) (K.faults sink.old) (K.faults sink.new)) result }
+{
+    match plan_text(alloc, scene, plan) {
+        Ok(text) => say(sink, Status::Done, &text),
+        Err(NoMemory) => Status::NoMemory,
+    }
+}
+
+// Says how many blocks each connection of the scene keeps at most, or which of its waits make up a cycle that is not
+// covered.
+fn plan_scene<K: Sink>(alloc: Global, scene: &Scene, sink: &mut K) -> Status
+    requires { IsFaultless scene.now }
+    ensures { IsGiven (AnswersPlanned scene.now) (ends (K.taken sink.old) (K.taken sink.new) (K.faults sink.old) (K.faults sink.new)) result }
+{
+    match negotiate(alloc, scene) {
+        Ok(plan) => say_plan(alloc, scene, &plan, sink),
+        Err(NegotiateFault::Uncovered(cycle)) => say_cycle(alloc, scene, &cycle, sink),
+        Err(NegotiateFault::Memory) => Status::NoMemory,
+    }
+}
+
+/// Says how many blocks each connection of the scene that the configuration describes keeps at most, or its first fault,
+/// or which of its waits make up a cycle that is not covered. The configuration is one that a text spells.
+pub fn plan<K: Sink>(alloc: Global, config: &Config, sink: &mut K) -> Status
+    requires { is_lawful_config config.now ≡ true }
+    ensures { IsGiven (AnswersScene AnswersPlanned config.now (scene_of config.now)) (ends (K.taken sink.old) (K.taken sink.new) (K.faults sink.old) (K.faults sink.new)) result }
+{
+    match read_scene(alloc, config) {
+        Ok(scene) => plan_scene(alloc, &scene, sink),
+        Err(fault) => match fault {
+            SetupFault::Memory => Status::NoMemory,
+            _ => refuse(alloc, Some(config), fault, sink),
+        },
+    }
+}
