@@ -1,10 +1,9 @@
 -- Settings and sections stay lawful.
-use Rattle.std.proofs.Common.{◌≡◌, ℕ, suc, ◌-◌, ◌<◌, true, false, not, leb, ◌&&◌, ◌||◌, List, [], ◌∷◌, ◌++◌, length, Some, None, refl, ap, ◌∙◌, inl, inr, arith}
-use Rattle.std.specs.Prelude.{Result, Ok, Err, OnOk, OnErr}
-use Rattle.indexmap.specs.IndexMap.{set_value_at}
+use Rattle.std.proofs.Common.{◌≡◌, ℕ, zero, suc, ◌-◌, ◌<◌, true, false, not, leb, ◌&&◌, ◌||◌, List, [], ◌∷◌, ◌++◌, length, Some, None, refl, ap, ◌∙◌, inl, inr, arith}
+use Rattle.indexmap.specs.IndexMap.{insert_entry, set_value_at}
 use Rattle.config_text.proofs.LastSection.{set_last}
 use Rattle.std.specs.List.{list_any, list_all}
-use Rattle.std.proofs.lemmas.Bool.{and_parts, and_from, or_from, le-leb, not-true, not_from_false, cases_Bool}
+use Rattle.std.proofs.lemmas.Bool.{and_parts, and_from, or_parts, or_from, le-leb, not-true, not_from_false, cases_Bool}
 use Rattle.std.proofs.lemmas.List.{length-append}
 use Rattle.std.proofs.lemmas.List.Folds.{list_all-append, list_any-append}
 use Rattle.music_base.specs.Names.{is_name}
@@ -31,10 +30,48 @@ own_push {X} (e ∷ es) n x own none =
     list_any-append (λ (other : List ℕ × X). same_name other.0 e.0) es ((n, x) ∷ []) ∙ or_from _ _ (not-true _ parts.0) (or_from (same_name n e.0) false miss.0 refl) in
     and_from _ _ (not_from_false _ fresh) (own_push es n x parts.1 miss.1)
 
-pub settings_push : (ps : List Setting) (n v : List ℕ) → are_settings ps ≡ true → is_name n ≡ true → is_value v ≡ true → value_of ps n ≡ None → are_settings (ps ++ (n, v) ∷ []) ≡ true
-settings_push ps n v lawful name value none =
+-- ---- a setting inserted: its name keeps its place where it is there, and goes last where it is not
+
+pub insert_new : {X : Type 0} (es : List (List ℕ × X)) (n : List ℕ) (x : X) → value_of es n ≡ None → insert_entry same_name es n x ≡ es ++ (n, x) ∷ []
+insert_new [] n x none = refl
+insert_new {X} (e ∷ es) n x none =
+    let miss = not_found e es n none in
+    rw miss.0 (ap (λ (l : List (List ℕ × X)). e ∷ l) (insert_new es n x miss.1))
+
+all_insert : (ps : List Setting) (n v : List ℕ) → list_all is_lawful_setting ps ≡ true → is_name n ≡ true → is_value v ≡ true → list_all is_lawful_setting (insert_entry same_name ps n v) ≡ true
+all_insert [] n v all name value = and_from _ _ (and_from _ _ name value) refl
+all_insert (p ∷ ps) n v all name value =
+    let parts = and_parts (is_lawful_setting p) (list_all is_lawful_setting ps) all in
+    elim (cases_Bool (same_name n p.0)) [
+      | inl same ↦ rw same (and_from _ _ (and_from _ _ (and_parts (is_name p.0) (is_value p.1) parts.0).0 value) parts.1)
+      | inr other ↦ rw other (and_from _ _ parts.0 (all_insert ps n v parts.1 name value))
+    ]
+
+any_insert : (k : List ℕ) (ps : List Setting) (n v : List ℕ) → list_any (λ (o : Setting). same_name o.0 k) ps ≡ false → same_name n k ≡ false → list_any (λ (o : Setting). same_name o.0 k) (insert_entry same_name ps n v) ≡ false
+any_insert k [] n v none other = or_from _ _ other refl
+any_insert k (p ∷ ps) n v none other =
+    let parts = or_parts (same_name p.0 k) (list_any (λ (o : Setting). same_name o.0 k) ps) none in
+    elim (cases_Bool (same_name n p.0)) [
+      | inl same ↦ rw same none
+      | inr differs ↦ rw differs (or_from _ _ parts.0 (any_insert k ps n v parts.1 other))
+    ]
+
+own_insert : (ps : List Setting) (n v : List ℕ) → has_own_keys ps ≡ true → has_own_keys (insert_entry same_name ps n v) ≡ true
+own_insert [] n v own = refl
+own_insert (p ∷ ps) n v own =
+    let parts = and_parts (not (list_any (λ (other : Setting). same_name other.0 p.0) ps)) (has_own_keys ps) own in
+    elim (cases_Bool (same_name n p.0)) [
+      | inl same ↦ rw same own
+      | inr differs ↦ rw differs (and_from _ _ (not_from_false _ (any_insert p.0 ps n v (not-true _ parts.0) differs)) (own_insert ps n v parts.1))
+    ]
+
+pub settings_insert : (ps : List Setting) (n v : List ℕ) → are_settings ps ≡ true → is_name n ≡ true → is_value v ≡ true → are_settings (insert_entry same_name ps n v) ≡ true
+settings_insert ps n v lawful name value =
     let parts = and_parts (list_all is_lawful_setting ps) (has_own_keys ps) lawful in
-    and_from _ _ (list_all-append is_lawful_setting ps ((n, v) ∷ []) ∙ and_from _ _ parts.0 (and_from _ _ (and_from _ _ name value) refl)) (own_push ps n v parts.1 none)
+    and_from _ _ (all_insert ps n v parts.0 name value) (own_insert ps n v parts.1)
+
+pub settings_push : (ps : List Setting) (n v : List ℕ) → are_settings ps ≡ true → is_name n ≡ true → is_value v ≡ true → value_of ps n ≡ None → are_settings (ps ++ (n, v) ∷ []) ≡ true
+settings_push ps n v lawful name value none = rw (← insert_new ps n v none) (settings_insert ps n v lawful name value)
 
 pub sections_push : (ss : List (List ℕ × List Setting)) (n : List ℕ) (st : List Setting) → are_sections ss ≡ true → is_name n ≡ true → are_settings st ≡ true → value_of ss n ≡ None → length ss < 32 → are_sections (ss ++ (n, st) ∷ []) ≡ true
 sections_push ss n st lawful name settings none room =
@@ -43,37 +80,40 @@ sections_push ss n st lawful name settings none room =
     and_from _ _ (and_from _ _ (list_all-append is_lawful_section ss ((n, st) ∷ []) ∙ and_from _ _ b.0 (and_from _ _ (and_from _ _ name settings) refl)) (own_push ss n st b.1 none))
     (le-leb (length (ss ++ (n, st) ∷ [])) 32 (omega (arith, length-append ss ((n, st) ∷ []))))
 
--- a setting more in the last section leaves the keys as they are
-any_onto : (k : List ℕ) (p : Setting) (ss : List (List ℕ × List Setting)) → list_any (λ (o : List ℕ × List Setting). same_name o.0 k) (onto_last p ss) ≡ list_any (λ (o : List ℕ × List Setting). same_name o.0 k) ss
-any_onto k p [] = refl
-any_onto k p (s ∷ []) = refl
-any_onto k p (s ∷ t ∷ ss) = ap (λ b. same_name s.0 k || b) (any_onto k p (t ∷ ss))
+-- a value in the place of another leaves the keys as they are
+any_set : (k : List ℕ) (ss : List (List ℕ × List Setting)) (i : ℕ) (w : List Setting) → list_any (λ (o : List ℕ × List Setting). same_name o.0 k) (set_value_at ss i w) ≡ list_any (λ (o : List ℕ × List Setting). same_name o.0 k) ss
+any_set k [] i w = refl
+any_set k (s ∷ ss) zero w = refl
+any_set k (s ∷ ss) (suc i) w = ap (λ b. same_name s.0 k || b) (any_set k ss i w)
 
-own_onto : (p : Setting) (ss : List (List ℕ × List Setting)) → has_own_keys (onto_last p ss) ≡ has_own_keys ss
-own_onto p [] = refl
-own_onto p (s ∷ []) = refl
-own_onto p (s ∷ t ∷ ss) = rw (any_onto s.0 p (t ∷ ss), own_onto p (t ∷ ss)) refl
+own_set : (ss : List (List ℕ × List Setting)) (i : ℕ) (w : List Setting) → has_own_keys (set_value_at ss i w) ≡ has_own_keys ss
+own_set [] i w = refl
+own_set (s ∷ ss) zero w = refl
+own_set (s ∷ ss) (suc i) w = rw (any_set s.0 ss i w, own_set ss i w) refl
 
-length_onto : (p : Setting) (ss : List (List ℕ × List Setting)) → length (onto_last p ss) ≡ length ss
-length_onto p [] = refl
-length_onto p (s ∷ []) = refl
-length_onto p (s ∷ t ∷ ss) = ap suc (length_onto p (t ∷ ss))
+length_set : (ss : List (List ℕ × List Setting)) (i : ℕ) (w : List Setting) → length (set_value_at ss i w) ≡ length ss
+length_set [] i w = refl
+length_set (s ∷ ss) zero w = refl
+length_set (s ∷ ss) (suc i) w = ap suc (length_set ss i w)
 
-all_onto : (p : Setting) (ss : List (List ℕ × List Setting)) (old : List Setting) → last_value ss ≡ Some old → are_settings (old ++ p ∷ []) ≡ true → list_all is_lawful_section ss ≡ true → list_all is_lawful_section (onto_last p ss) ≡ true
-all_onto p [] old is settings all = refl
-all_onto p (s ∷ []) old is settings all =
-    let same : s.1 ≡ old = cc in
-    let name = and_parts (is_name s.0) (are_settings s.1) (and_parts (is_lawful_section s) true all).0 in
-    and_from _ _ (and_from _ _ name.0 (rw same settings)) refl
-all_onto p (s ∷ t ∷ ss) old is settings all =
-    let parts = and_parts (is_lawful_section s) (list_all is_lawful_section (t ∷ ss)) all in
-    and_from _ _ parts.0 (all_onto p (t ∷ ss) old is settings parts.1)
+all_set : (ss : List (List ℕ × List Setting)) (i : ℕ) (w : List Setting) → are_settings w ≡ true → list_all is_lawful_section ss ≡ true → list_all is_lawful_section (set_value_at ss i w) ≡ true
+all_set [] i w settings all = refl
+all_set (s ∷ ss) zero w settings all =
+    let parts = and_parts (is_lawful_section s) (list_all is_lawful_section ss) all in
+    and_from _ _ (and_from _ _ (and_parts (is_name s.0) (are_settings s.1) parts.0).0 settings) parts.1
+all_set (s ∷ ss) (suc i) w settings all =
+    let parts = and_parts (is_lawful_section s) (list_all is_lawful_section ss) all in
+    and_from _ _ parts.0 (all_set ss i w settings parts.1)
 
-pub sections_onto : (p : Setting) (ss : List (List ℕ × List Setting)) (old : List Setting) → last_value ss ≡ Some old → are_settings (old ++ p ∷ []) ≡ true → are_sections ss ≡ true → are_sections (onto_last p ss) ≡ true
-sections_onto p ss old is settings lawful =
+-- lawful settings in the place of others
+pub sections_set : (ss : List (List ℕ × List Setting)) (i : ℕ) (w : List Setting) → are_settings w ≡ true → are_sections ss ≡ true → are_sections (set_value_at ss i w) ≡ true
+sections_set ss i w settings lawful =
     let a = and_parts (list_all is_lawful_section ss && has_own_keys ss) (leb (length ss) 32) lawful in
     let b = and_parts (list_all is_lawful_section ss) (has_own_keys ss) a.0 in
-    and_from _ _ (and_from _ _ (all_onto p ss old is settings b.0) (own_onto p ss ∙ b.1)) (rw (length_onto p ss) a.1)
+    and_from _ _ (and_from _ _ (all_set ss i w settings b.0) (own_set ss i w ∙ b.1)) (rw (length_set ss i w) a.1)
+
+pub sections_onto : (p : Setting) (ss : List (List ℕ × List Setting)) (old : List Setting) → last_value ss ≡ Some old → are_settings (old ++ p ∷ []) ≡ true → are_sections ss ≡ true → are_sections (onto_last p ss) ≡ true
+sections_onto p ss old is settings lawful = rw (← set_last ss old (old ++ p ∷ []) p is refl) (sections_set ss (length ss - 1) (old ++ p ∷ []) settings lawful)
 
 pub set_same : (ss : List (List ℕ × List Setting)) (old : List Setting) → last_value ss ≡ Some old → set_value_at ss (length ss - 1) old ≡ ss
 set_same [] old is = refl
@@ -81,10 +121,3 @@ set_same (s ∷ []) old is = let same : s.1 ≡ old = cc in rw (← same) refl
 set_same (s ∷ t ∷ ss) old is =
     let i : suc (suc (length ss)) - 1 ≡ suc (suc (length ss) - 1) = omega arith in
     rw i (ap (λ (l : List (List ℕ × List Setting)). s ∷ l) (set_same (t ∷ ss) old is))
-
--- after a push to the last section, whether it came or not
-pub sections_kept : {E : Type 0} (r : Result (Unit {0}) E) (p : Setting) (ss : List (List ℕ × List Setting)) (old new : List Setting) → last_value ss ≡ Some old → OnOk r (new ≡ old ++ p ∷ []) → OnErr r (new ≡ old) → are_settings new ≡ true
-    → are_sections ss ≡ true → are_sections (set_value_at ss (length ss - 1) new) ≡ true
-sections_kept (Ok x) p ss old new is ok err settings lawful =
-    rw (set_last ss old new p is ok) (sections_onto p ss old is (rw (← ok) settings) lawful)
-sections_kept (Err x) p ss old new is ok err settings lawful = rw (err, set_same ss old is) lawful

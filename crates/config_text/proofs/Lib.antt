@@ -1,4 +1,5 @@
 pub mod Cutting
+pub mod LineEnd
 pub mod Ends
 pub mod Comments
 pub mod CommentRule

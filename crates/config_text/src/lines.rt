@@ -3,6 +3,8 @@ ghost use Rattle.std.specs.List.{position};
 ghost use Rattle.config_text.specs.Lines.{is_line_feed};
 ghost use Rattle.config_text.specs.Lines.{raw_lines};
 
+use memchr::memchr;
+
 /// The longest text, in bytes.
 pub const LONGEST_TEXT: usize = 1_048_576;
 
@@ -22,5 +24,5 @@ fn line_end(bytes: &[u8]) -> Option<usize>
     ensures place { result ≡ position is_line_feed bytes.now }
     ensures within { IfSome result (λ end. end < length bytes.now) }
 {
-    bytes.iter().position(|b| *b == b'\n')
+    memchr(b'\n', bytes)
 }

@@ -1,13 +1,13 @@
 //! Reading a text, once from front to back.
 
-ghost use Rattle.std.specs.Prelude.{◌≡◌, ◌≢◌, ℕ, ◌<◌, ◌++◌, ◌∷◌, [], length, IfOk, IfErr, OnOk, Ok, None, Some, is_some, nat_le, true, false};
+ghost use Rattle.std.specs.Prelude.{◌≡◌, ◌≢◌, ℕ, ◌<◌, ◌++◌, ◌∷◌, [], length, IfOk, IfErr, OnOk, Ok, None, Some, is_some, not, nat_le, true, false};
 ghost use Rattle.music_base.specs.Names.{is_name};
 ghost use Rattle.config_text.specs.Parts.{is_value};
 ghost use Rattle.config_text.specs.Connections.{is_link, is_width};
 ghost use Rattle.config_text.specs.Contents.{content_of, is_lawful, section, setting, connection};
 ghost use Rattle.config_text.specs.Pairs.{value_of, last_value, onto_last};
-ghost use Rattle.config_text.specs.Text.{Spells, HasFault, IsFaultOf, fault_beside, open_settings, section_fault, setting_fault, link_fault};
-ghost use Rattle.config_text.specs.Inner.{seen, link_of, with_content, with_line, OnKind, Adds, at_line};
+ghost use Rattle.config_text.specs.Text.{Spells, IsFaultOf, fault_beside, open_settings, section_fault, link_fault};
+ghost use Rattle.config_text.specs.Inner.{seen, link_of, with_content, with_line, with_setting, OnKind, Adds, at_line};
 ghost use Rattle.config_text.specs.declared.text_kind.TextKind.TheVariants.{Unbuilt};
 ghost use Rattle.config_text.specs.declared.text_fault.TextFault.TheVariants.{At};
 ghost use Rattle.config_text.specs.declared.reading.LineFault.TheVariants.{Memory};
@@ -46,25 +46,6 @@ fn section_fault(config: &Config, name: &Name) -> Option<TextKind>
     }
 }
 
-fn open_settings(config: &Config) -> &Settings
-    ensures { result.now ≡ open_settings config.now }
-{
-    match config.sections.last() {
-        Some(settings) => settings,
-        None => &config.defaults,
-    }
-}
-
-fn setting_fault(config: &Config, name: &Name) -> Option<TextKind>
-    ensures { result ≡ setting_fault config.now name.now }
-{
-    if open_settings(config).contains(name) {
-        Some(TextKind::RepeatedSetting)
-    } else {
-        None
-    }
-}
-
 fn link_fault(config: &Config) -> Option<TextKind>
     ensures { result ≡ link_fault config.now }
 {
@@ -90,6 +71,19 @@ fn add_section(config: &mut Config, alloc: Global, name: &[u8]) -> Result<(), Li
     Ok(())
 }
 
+// Puts a setting where the last section line has it, and tells whether its name is new there.
+fn insert_setting(config: &mut Config, name: Name, value: Word) -> Result<bool, NoMemory>
+    requires { is_value value ≡ true }
+    ensures fresh { IfOk result (λ fresh. fresh ≡ not (is_some (value_of (open_settings config.old) name))) }
+    ensures added { IfOk result (λ fresh. fresh ≡ true → config.new ≡ with_setting config.old (name, value) config.old.sections) }
+{
+    if config.sections.is_empty() {
+        config.defaults.insert(name, value)
+    } else {
+        config.sections.insert_setting(name, value)
+    }
+}
+
 fn add_setting(
     config: &mut Config,
     alloc: Global,
@@ -103,15 +97,11 @@ fn add_setting(
 {
     let name = Name::from_slice(alloc, name)?;
     let value = Word::from_slice(alloc, value)?;
-    if let Some(kind) = setting_fault(config, &name) {
-        return Err(LineFault::Fault(kind));
-    }
-    if config.sections.is_empty() {
-        config.defaults.push(name, value)?;
+    if insert_setting(config, name, value)? {
+        Ok(())
     } else {
-        config.sections.push_setting(name, value)?;
+        Err(LineFault::Fault(TextKind::RepeatedSetting))
     }
-    Ok(())
 }
 
 fn link_text(alloc: Global, lent: Connection<'_>) -> Result<LinkText, LineFault>

@@ -1,5 +1,6 @@
-ghost use Rattle.std.specs.Prelude.{◌≡◌, ◌==◌, [], ◌∷◌, ◌++◌, length, slice_get, IfOk, OnOk, OnErr, IfSome, ◌<◌, is_some, Some, None, true};
+ghost use Rattle.std.specs.Prelude.{◌≡◌, ◌==◌, [], ◌∷◌, ◌++◌, ◌-◌, length, slice_get, IfOk, OnOk, OnErr, IfSome, ◌<◌, is_some, not, Some, None, true};
 ghost use Rattle.std.specs.Option.{option_copied};
+ghost use Rattle.indexmap.specs.IndexMap.{insert_entry, set_value_at};
 ghost use Rattle.config_text.specs.Pairs.{value_of, same_name, last_value, onto_last};
 ghost use Rattle.config_text.specs.Lawful.{are_sections, are_settings};
 ghost use Rattle.config_text.specs.Parts.{is_value};
@@ -100,14 +101,27 @@ impl Sections {
         ensures ok { OnOk result (self.new ≡ onto_last (name, value) self.old) }
         ensures err { OnErr result (self.new ≡ self.old) }
     {
-        match self.entries.last_mut() {
-            None => unreachable!(),
-            Some(settings) => settings.push(name, value),
-        }
+        self.insert_setting(name, value)?;
+        Ok(())
     }
 }
 
 impl Sections {
+    /// Appends a setting of a new name to the last section, or gives a name that stands there this value. The answer is
+    /// whether the name is new there. Where memory is wanting the sections stay as they were.
+    pub(crate) fn insert_setting(&mut self, name: Name, value: Word) -> Result<bool, NoMemory>
+        requires some { 0 < length self.old }
+        requires value { is_value value ≡ true }
+        ensures fresh { IfOk result (λ fresh. IfSome (last_value self.old) (λ settings. fresh ≡ not (is_some (value_of settings name)))) }
+        ensures entries { OnOk result (IfSome (last_value self.old) (λ settings. self.new ≡ set_value_at self.old (length self.old - 1) (insert_entry same_name settings name value))) }
+        ensures err { OnErr result (self.new ≡ self.old) }
+    {
+        match self.entries.last_mut() {
+            None => unreachable!(),
+            Some(settings) => settings.insert(name, value),
+        }
+    }
+
     /// Gives back the memory that the last section keeps for further settings.
     pub(crate) fn shrink_last(&mut self)
         ensures { self.new ≡ self.old }

@@ -1,5 +1,6 @@
-ghost use Rattle.std.specs.Prelude.{◌≡◌, ◌==◌, [], ◌∷◌, ◌++◌, length, slice_get, IfOk, OnOk, OnErr, ◌<◌, is_some, Some, None, true};
+ghost use Rattle.std.specs.Prelude.{◌≡◌, ◌==◌, [], ◌∷◌, ◌++◌, length, slice_get, IfOk, OnOk, OnErr, ◌<◌, is_some, not, Some, None, true};
 ghost use Rattle.std.specs.Option.{option_copied};
+ghost use Rattle.indexmap.specs.IndexMap.{insert_entry};
 ghost use Rattle.config_text.specs.Pairs.{value_of, same_name};
 ghost use Rattle.config_text.specs.Lawful.{are_settings};
 ghost use Rattle.config_text.specs.Parts.{is_value};
@@ -83,14 +84,27 @@ impl Settings {
         ensures err { OnErr result (self.new ≡ self.old) }
         ensures lawful { are_settings self.new ≡ true }
     {
-        // Its type keeps that it is a name.
-        let _name = name.as_slice();
-        self.entries.insert(name, value)?;
+        self.insert(name, value)?;
         Ok(())
     }
 }
 
 impl Settings {
+    /// Appends a setting of a new name, or gives a name that stands among them this value. The answer is whether the name
+    /// is new. Where memory is wanting the settings stay as they were.
+    pub(crate) fn insert(&mut self, name: Name, value: Word) -> Result<bool, NoMemory>
+        requires { is_value value ≡ true }
+        ensures fresh { IfOk result (λ fresh. fresh ≡ not (is_some (value_of self.old name))) }
+        ensures entries { OnOk result (self.new ≡ insert_entry same_name self.old name value) }
+        ensures err { OnErr result (self.new ≡ self.old) }
+        ensures lawful { are_settings self.new ≡ true }
+    {
+        // Its type keeps that it is a name.
+        let _name = name.as_slice();
+        let old = self.entries.insert(name, value)?;
+        Ok(old.is_none())
+    }
+
     /// Gives back the memory that was kept for further settings.
     pub(crate) fn shrink_to_fit(&mut self)
         ensures { self.new ≡ self.old }

@@ -1,0 +1,8 @@
+use Rattle.config_text.proofs.Keeping.{settings_insert}
+use Rattle.config_text.proofs.settings.Settings.insert.Goals as goal
+
+pub invariant_of-self-2 : goal.invariant_of-self-2
+invariant_of-self-2 c = rw c.in_ok-old.ensures.entries (settings_insert c.self.inside.entries.entries c.args.name c.args.value c.self.invariant c.as_slice-name.ensures.name c.requires)
+
+pub returns-clause-lawful : goal.returns-clause-lawful
+returns-clause-lawful c = rw c.in_ok-old.ensures.entries (settings_insert c.self.inside.entries.entries c.args.name c.args.value c.self.invariant c.as_slice-name.ensures.name c.requires)
