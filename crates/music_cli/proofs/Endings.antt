@@ -27,11 +27,13 @@ use Rattle.music_setup.specs.Scenes.{scene_of}
 use Rattle.music_setup.specs.Texts.{text_of_fault}
 use Rattle.music_setup.specs.declared.fault.SetupFault.{SetupFault}
 use Rattle.music_setup.specs.declared.fault.SetupFault.TheVariants as setup
+use Rattle.music_setup.specs.Setups.{IsConfigFault}
 use Rattle.music_setup.proofs.Faultless.{scene_is_faultless}
+use Rattle.music_setup.proofs.NamedCycles.{text_of_scene}
 use Rattle.plain_run.specs.Plain as plain
 use Rattle.music_cli.specs.PlanTexts.{plan_text}
 use Rattle.music_cli.specs.Words.{command_of, are_accepted}
-use Rattle.music_cli.specs.Answers.{AnswersUncovered, AnswersChecked, AnswersPlanned, AnswersScene, AnswersForm, AnswersConfig, AnswersText, AnswersCommand, Answers, CanDo, CanDoWith, number_of, status_of, outcomes_of, scene_outcomes, usage_text, read_fault_text, ok_text}
+use Rattle.music_cli.specs.Answers.{AnswersFault, AnswersUncovered, AnswersChecked, AnswersPlanned, AnswersScene, AnswersForm, AnswersConfig, AnswersText, AnswersCommand, Answers, CanDo, CanDoWith, number_of, status_of, outcomes_of, scene_outcomes, usage_text, read_fault_text, ok_text}
 use Rattle.music_cli.specs.Clauses.{Ends, ends, most_read, read_part, IsStatus, HasAnswer, HasPrefix, IsComplete, WasRead, IsSaid, IsGiven, IsRead, Ended, refused, unread, unfound, answered}
 use Rattle.music_cli.specs.declared.command_line.Command.{Command}
 use Rattle.music_cli.specs.declared.command_line.Command.TheVariants.{Check, Plan, Run}
@@ -181,6 +183,7 @@ fault_outcome : (fault : SetupFault) (status : Status) → status ≡ status_of 
 fault_outcome (setup.Text line kind) status is = (1, lit< tt, sym is)
 fault_outcome (setup.Scene fault) status is = (2, lit< tt, sym is)
 fault_outcome (setup.Link place what) status is = (2, lit< tt, sym is)
+fault_outcome (setup.Uncovered cycle) status is = (3, lit< tt, sym is)
 fault_outcome setup.Memory status is = (6, lit< tt, sym is)
 
 checked_outcome : (scene : Scene) (status : Status) (text : List ℕ) → AnswersChecked scene status text → Contains scene_outcomes status
@@ -244,16 +247,6 @@ given_none P before faults answer = record { status = answer.0; text = answer.1;
 pub form_unfound : (found : Result FirstForm (ℕ × TextKind)) (before : Option (List ℕ)) (faults : ℕ) → IsGiven (AnswersForm found) (ends before before faults faults) NoMemory
 form_unfound found before faults = given_none (AnswersForm found) before faults (form_answer found)
 
-pub told_unfound : (scene : Scene) (cycle : List Wait) (before : Option (List ℕ)) (faults : ℕ) → IsTold (waits scene (stated_limits scene)) cycle
-    → IsGiven (AnswersUncovered scene) (ends before before faults faults) NoMemory
-told_unfound scene cycle before faults told = given_none (AnswersUncovered scene) before faults (CycleFault, cycle_text scene cycle, (cycle, told, refl, refl))
-
-pub checked_unfound : (scene : Scene) (before : Option (List ℕ)) (faults : ℕ) → IsFaultless scene → IsGiven (AnswersChecked scene) (ends before before faults faults) NoMemory
-checked_unfound scene before faults faultless = given_none (AnswersChecked scene) before faults (checked_answer scene faultless)
-
-pub planned_unfound : (scene : Scene) (before : Option (List ℕ)) (faults : ℕ) → IsFaultless scene → IsGiven (AnswersPlanned scene) (ends before before faults faults) NoMemory
-planned_unfound scene before faults faultless = given_none (AnswersPlanned scene) before faults (planned_answer scene faultless)
-
 -- where memory gave out before the scene was read
 pub checked_unread : (config : Config) (before : Option (List ℕ)) (faults : ℕ) → is_lawful_config config ≡ true
     → IsGiven (AnswersScene AnswersChecked config (scene_of config)) (ends before before faults faults) NoMemory
@@ -267,6 +260,25 @@ planned_unread config before faults lawful =
 
 pub text_unfound : (command : Command) (bytes : List ℕ) (before : Option (List ℕ)) (faults : ℕ) → IsGiven (AnswersText command bytes) (ends before before faults faults) NoMemory
 text_unfound command bytes before faults = given_none (AnswersText command bytes) before faults (text_answer command bytes)
+
+-- ---- what is said of a configuration
+
+-- the scene that it describes is answered
+pub of_described : (of_scene : Scene → Status → List ℕ → Type 0) (config : Config) (scene : Scene) (status : Status) (text : List ℕ) → scene_of config ≡ Ok scene → of_scene scene status text
+    → AnswersScene of_scene config (scene_of config) status text
+of_described of_scene config scene status text describes is = rw describes is
+
+-- its fault is answered; a cycle is one of its scene
+pub of_refused : (of_scene : Scene → Status → List ℕ → Type 0) (config : Config) (fault : SetupFault) (status : Status) (text : List ℕ)
+    → ((scene : Scene) → AnswersUncovered scene status text → of_scene scene status text) → IsConfigFault config fault → (fault ≡ setup.Memory → ⊥) → AnswersFault (Some config) fault status text
+    → AnswersScene of_scene config (scene_of config) status text
+unfolding text_of_fault
+of_refused of_scene config (setup.Text line kind) status text uncovered is some answers = absurd is
+of_refused of_scene config (setup.Scene fault) status text uncovered is some answers = rw is answers
+of_refused of_scene config (setup.Link place what) status text uncovered is some answers = rw is answers
+of_refused of_scene config (setup.Uncovered cycle) status text uncovered is some answers =
+    rw is.1 (uncovered is.0 (cycle.0.items, is.2, answers.0, answers.1 ∙ text_of_scene config is.0 cycle.0.items is.1))
+of_refused of_scene config setup.Memory status text uncovered is some answers = absurd (some refl)
 
 -- an answer that was given is one of each kind that it belongs to
 pub given_as : (P Q : Status → List ℕ → Type 0) (sink : Ends) (result : Status) → ((status : Status) (text : List ℕ) → P status text → Q status text) → IsGiven P sink result → IsGiven Q sink result

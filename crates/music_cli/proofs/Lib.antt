@@ -1,4 +1,3 @@
-pub mod ToldCycles
 pub mod PlanLines
 pub mod Endings
 pub mod LiveScenes

@@ -21,6 +21,7 @@ no_fault_done : (fault : SetupFault) → number_of (status_of fault) ≡ 0 → �
 no_fault_done (setup.Text line kind) done = omega (arith, done)
 no_fault_done (setup.Scene fault) done = omega (arith, done)
 no_fault_done (setup.Link place what) done = omega (arith, done)
+no_fault_done (setup.Uncovered cycle) done = omega (arith, done)
 no_fault_done setup.Memory done = omega (arith, done)
 
 checked_live : (scene : Scene) (status : Status) (text : List ℕ) → IsFaultless scene → AnswersChecked scene status text → number_of status ≡ 0 → HasLiveLimits scene

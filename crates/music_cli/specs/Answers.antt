@@ -43,6 +43,7 @@ abbrev pub status_of : SetupFault → Status
 status_of (setup.Text _ _) = TextFault
 status_of (setup.Scene _) = SceneFault
 status_of (setup.Link _ _) = SceneFault
+status_of (setup.Uncovered _) = CycleFault
 status_of setup.Memory = NoMemory
 
 -- the outcomes of a command that asks for the scene

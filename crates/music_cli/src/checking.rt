@@ -1,23 +1,18 @@
 //! The command `check`.
-ghost use Rattle.std.specs.Prelude.{◌≡◌, true, IfOk, IfErr};
+ghost use Rattle.std.specs.Prelude.{◌≡◌, true, IfOk};
 ghost use Rattle.config_text.specs.Canon.{is_lawful_config};
-ghost use Rattle.scene_model.specs.Faults.{IsFaultless};
-ghost use Rattle.scene_model.specs.Waits.{IsAccepted, stated_limits, waits};
-ghost use Rattle.tick_plan.specs.Faults.{TellsUncovered};
 ghost use Rattle.music_setup.specs.Scenes.{scene_of};
 ghost use Rattle.music_cli.specs.Answers.{ok_text, AnswersChecked, AnswersDone, AnswersScene};
 ghost use Rattle.music_cli.specs.Clauses.{ends, IsGiven};
 
 use crate::Status;
-use crate::saying::{refuse, say, say_cycle};
+use crate::saying::{refuse, say};
 use config_text::Config;
 use itoa::Buffer;
-use latency_graph::stated_limits;
 use music_base::{NoMemory, Sink};
-use music_setup::{SetupFault, read_scene};
+use music_setup::{SetupFault, setup_config};
 use scene_model::Scene;
 use std::alloc::Global;
-use tick_plan::{NegotiateFault, cover};
 
 /// The line that says how many applications and connections a scene has.
 #[tactic(auto, unfolding(crate::specs::Answers::ok_text))]
@@ -42,37 +37,14 @@ fn say_size<K: Sink>(alloc: Global, scene: &Scene, sink: &mut K) -> Status
     }
 }
 
-// Accepts the scene, or finds a cycle of its waits under stated limits that is not covered.
-fn accept(alloc: Global, scene: &Scene) -> Result<(), NegotiateFault>
-    requires { IsFaultless scene.now }
-    ensures accepted { IfOk result (λ _. IsAccepted scene.now) }
-    ensures uncovered { IfErr result (TellsUncovered (waits scene.now (stated_limits scene.now))) }
-{
-    let stated = stated_limits(alloc, scene)?;
-    cover(alloc, scene, &stated)?;
-    Ok(())
-}
-
-// Says how large the scene is, or which of its waits make up a cycle that is not covered.
-fn check_scene<K: Sink>(alloc: Global, scene: &Scene, sink: &mut K) -> Status
-    requires { IsFaultless scene.now }
-    ensures { IsGiven (AnswersChecked scene.now) (ends (K.taken sink.old) (K.taken sink.new) (K.faults sink.old) (K.faults sink.new)) result }
-{
-    match accept(alloc, scene) {
-        Ok(()) => say_size(alloc, scene, sink),
-        Err(NegotiateFault::Uncovered(cycle)) => say_cycle(alloc, scene, &cycle, sink),
-        Err(NegotiateFault::Memory) => Status::NoMemory,
-    }
-}
-
 /// Says how large the scene is that the configuration describes, or its first fault, or which of its waits make up a
 /// cycle that is not covered. The configuration is one that a text spells.
 pub fn check<K: Sink>(alloc: Global, config: &Config, sink: &mut K) -> Status
     requires { is_lawful_config config.now ≡ true }
     ensures { IsGiven (AnswersScene AnswersChecked config.now (scene_of config.now)) (ends (K.taken sink.old) (K.taken sink.new) (K.faults sink.old) (K.faults sink.new)) result }
 {
-    match read_scene(alloc, config) {
-        Ok(scene) => check_scene(alloc, &scene, sink),
+    match setup_config(alloc, config) {
+        Ok(ready) => say_size(alloc, &ready.scene, sink),
         Err(fault) => match fault {
             SetupFault::Memory => Status::NoMemory,
             _ => refuse(alloc, Some(config), fault, sink),

@@ -11,13 +11,13 @@ ghost use Rattle.music_cli.specs.PlanTexts.{plan_text};
 
 use crate::Status;
 use crate::plan_text::plan_text;
-use crate::saying::{refuse, say, say_cycle};
+use crate::saying::{refuse, say};
 use config_text::Config;
 use music_base::{NoMemory, Sink};
-use music_setup::{SetupFault, read_scene};
+use music_setup::{SetupFault, setup_config};
 use scene_model::Scene;
 use std::alloc::Global;
-use tick_plan::{NegotiateFault, Plan, negotiate};
+use tick_plan::Plan;
 
 // Says how many blocks each connection keeps at most.
 fn say_plan<K: Sink>(alloc: Global, scene: &Scene, plan: &Plan, sink: &mut K) -> Status
@@ -32,27 +32,14 @@ fn say_plan<K: Sink>(alloc: Global, scene: &Scene, plan: &Plan, sink: &mut K) ->
     }
 }
 
-// Says how many blocks each connection of the scene keeps at most, or which of its waits make up a cycle that is not
-// covered.
-fn plan_scene<K: Sink>(alloc: Global, scene: &Scene, sink: &mut K) -> Status
-    requires { IsFaultless scene.now }
-    ensures { IsGiven (AnswersPlanned scene.now) (ends (K.taken sink.old) (K.taken sink.new) (K.faults sink.old) (K.faults sink.new)) result }
-{
-    match negotiate(alloc, scene) {
-        Ok(plan) => say_plan(alloc, scene, &plan, sink),
-        Err(NegotiateFault::Uncovered(cycle)) => say_cycle(alloc, scene, &cycle, sink),
-        Err(NegotiateFault::Memory) => Status::NoMemory,
-    }
-}
-
 /// Says how many blocks each connection of the scene that the configuration describes keeps at most, or its first fault,
 /// or which of its waits make up a cycle that is not covered. The configuration is one that a text spells.
 pub fn plan<K: Sink>(alloc: Global, config: &Config, sink: &mut K) -> Status
     requires { is_lawful_config config.now ≡ true }
     ensures { IsGiven (AnswersScene AnswersPlanned config.now (scene_of config.now)) (ends (K.taken sink.old) (K.taken sink.new) (K.faults sink.old) (K.faults sink.new)) result }
 {
-    match read_scene(alloc, config) {
-        Ok(scene) => plan_scene(alloc, &scene, sink),
+    match setup_config(alloc, config) {
+        Ok(ready) => say_plan(alloc, &ready.scene, &ready.plan, sink),
         Err(fault) => match fault {
             SetupFault::Memory => Status::NoMemory,
             _ => refuse(alloc, Some(config), fault, sink),

@@ -1,19 +1,14 @@
 //! Texts that are written with a status.
 ghost use Rattle.std.specs.Prelude.{◌≡◌};
 ghost use Rattle.std.specs.Option.{option_copied};
-ghost use Rattle.scene_model.specs.Cover.{IsTold};
-ghost use Rattle.scene_model.specs.Faults.{IsFaultless};
-ghost use Rattle.scene_model.specs.Waits.{stated_limits, waits};
 ghost use Rattle.music_setup.specs.Texts.{HasText};
-ghost use Rattle.music_cli.specs.Answers.{usage_text, read_fault_text, AnswersFault, AnswersUncovered};
+ghost use Rattle.music_cli.specs.Answers.{usage_text, read_fault_text, AnswersFault};
 ghost use Rattle.music_cli.specs.Clauses.{ends, IsGiven, IsSaid};
 
 use crate::Status;
 use config_text::Config;
-use cycle_check::{Cycle, write_cycle};
 use music_base::{NoMemory, Sink, write_all};
 use music_setup::{SetupFault, fault_text};
-use scene_model::Scene;
 use std::alloc::Global;
 
 /// The line that refused words get.
@@ -42,10 +37,10 @@ pub fn say<K: Sink>(sink: &mut K, status: Status, text: &[u8]) -> Status
     }
 }
 
-/// Writes the line of a fault. The answer is the status of the fault, or that of a write fault or of want of memory.
+/// Writes the text of a fault. The answer is the status of the fault, or that of a write fault or of want of memory.
 ///
-/// A fault of a text has no configuration beside it. The application that a fault of a scene names has to stand in the
-/// configuration, and want of memory has no line.
+/// A fault of a text has no configuration beside it. The applications that another one names have to stand in the
+/// configuration, and want of memory has no text.
 pub fn refuse<K: Sink>(
     alloc: Global,
     config: Option<&Config>,
@@ -56,20 +51,7 @@ pub fn refuse<K: Sink>(
     ensures { IsGiven (AnswersFault (option_copied config.entry) fault) (ends (K.taken sink.old) (K.taken sink.new) (K.faults sink.old) (K.faults sink.new)) result }
 {
     match fault_text(alloc, config, &fault) {
-        Ok(text) => say(sink, Status::of_fault(fault), &text),
-        Err(NoMemory) => Status::NoMemory,
-    }
-}
-
-/// Says which waits of the scene make up a cycle that is not covered. The answer is the status of a cycle, or that of a
-/// write fault or of want of memory.
-pub fn say_cycle<K: Sink>(alloc: Global, scene: &Scene, cycle: &Cycle, sink: &mut K) -> Status
-    requires faultless { IsFaultless scene.now }
-    requires told { IsTold (waits scene.now (stated_limits scene.now)) cycle.now.0.items }
-    ensures { IsGiven (AnswersUncovered scene.now) (ends (K.taken sink.old) (K.taken sink.new) (K.faults sink.old) (K.faults sink.new)) result }
-{
-    match write_cycle(alloc, scene, cycle) {
-        Ok(text) => say(sink, Status::CycleFault, &text),
+        Ok(text) => say(sink, Status::of_fault(&fault), &text),
         Err(NoMemory) => Status::NoMemory,
     }
 }

@@ -44,12 +44,13 @@ impl Status {
     }
 
     /// The status of a fault.
-    pub(crate) fn of_fault(fault: SetupFault) -> Status
-        ensures { result ≡ status_of fault }
+    pub(crate) fn of_fault(fault: &SetupFault) -> Status
+        ensures { result ≡ status_of fault.now }
     {
         match fault {
             SetupFault::Text { .. } => Status::TextFault,
             SetupFault::Scene(_) | SetupFault::Link { .. } => Status::SceneFault,
+            SetupFault::Uncovered(_) => Status::CycleFault,
             SetupFault::Memory => Status::NoMemory,
         }
     }

@@ -160,10 +160,10 @@ unnamed_are config stop apps gave =
     (λ before section app so_far is. let lawful = beside_is config stop before section app is in All-push (IsUnnamed stop) before app so_far (lawful.pace, lawful.parts))
     config.sections [] apps tt gave
 
-abbrev HaveNames : List AppDecl → SectionList → Type 0
+abbrev pub HaveNames : List AppDecl → SectionList → Type 0
 HaveNames apps sections = map (λ (app : AppDecl). app.name) apps ≡ map (λ (section : List ℕ × SettingList). section.0) sections
 
-names_are : (config : Config) (stop : ℕ) (apps : List AppDecl) → apps_until config stop ≡ Ok apps → HaveNames apps config.sections
+pub names_are : (config : Config) (stop : ℕ) (apps : List AppDecl) → apps_until config stop ≡ Ok apps → HaveNames apps config.sections
 names_are config stop apps gave =
     in_turn-map (app_beside config stop) (λ (app : AppDecl). app.name) (λ (section : List ℕ × SettingList). section.0)
     (λ before section app is. (beside_is config stop before section app is).named) config.sections [] apps gave

@@ -2,5 +2,8 @@ pub mod Capped
 pub mod Next
 pub mod OfApps
 pub mod OfConfig
+pub mod OfSetups
+pub mod NamedCycles
+pub mod ToldCycles
 pub mod OfScenes
 pub mod Faultless

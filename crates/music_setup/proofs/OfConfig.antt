@@ -113,4 +113,5 @@ pub fault_of_config : (config : Config) (fault : SetupFault) → IsSetupFault (s
 fault_of_config config (setup.Text line kind) is some = absurd is
 fault_of_config config (setup.Scene fault) is some = scene_fault_of_config config fault is
 fault_of_config config (setup.Link place what) is some = tt
+fault_of_config config (setup.Uncovered cycle) is some = absurd is
 fault_of_config config setup.Memory is some = absurd (some refl)

@@ -23,6 +23,7 @@ unfolding scene_of
 scene_fault config setup.Memory is = tt
 scene_fault config (setup.Scene fault) is = rw is refl
 scene_fault config (setup.Link _ _) is = absurd is
+scene_fault config (setup.Uncovered _) is = absurd is
 scene_fault config (setup.Text _ _) is = absurd is
 
 -- and so is one of a connection, where these have none

@@ -6,6 +6,10 @@ use Rattle.app_scripts.specs.declared.fault.RuleFault.{RuleFault}
 use Rattle.app_scripts.specs.declared.fault.RuleFault.TheVariants as rule
 use Rattle.port_match.specs.declared.fault.MatchFault.{MatchFault}
 use Rattle.port_match.specs.declared.fault.MatchFault.TheVariants as match
+use Rattle.config_text.specs.declared.text_fault.TextFault.{TextFault}
+use Rattle.config_text.specs.declared.text_fault.TextFault.TheVariants as text
+use Rattle.tick_plan.specs.declared.fault.NegotiateFault.{NegotiateFault}
+use Rattle.tick_plan.specs.declared.fault.NegotiateFault.TheVariants as plan
 use Rattle.music_setup.specs.declared.fault.AppKind.{AppKind}
 use Rattle.music_setup.specs.declared.fault.AppKind.TheVariants.{Ports, Rules}
 use Rattle.music_setup.specs.declared.fault.AppFault.{AppFault}
@@ -42,6 +46,7 @@ abbrev pub IsSceneFault : {A : Type 0} → Result A SceneFault → SetupFault �
 IsSceneFault reading setup.Memory = ⊤
 IsSceneFault reading (setup.Scene fault) = reading ≡ Err fault
 IsSceneFault reading (setup.Link _ _) = ⊥
+IsSceneFault reading (setup.Uncovered _) = ⊥
 IsSceneFault reading (setup.Text _ _) = ⊥
 
 -- what a fault of the connections is
@@ -49,9 +54,22 @@ abbrev pub of_links : MatchFault → SetupFault
 of_links match.Memory = setup.Memory
 of_links (match.Link place kind) = setup.Link place kind
 
--- the stop, an application or a connection has this fault; that of a text is none of a configuration
+-- the stop, an application or a connection has this fault; a cycle is none of these, and that of a text is none of a
+-- configuration
 abbrev pub IsSetupFault : {A : Type 0} → Result A SetupFault → SetupFault → Type 0
 IsSetupFault reading setup.Memory = ⊤
 IsSetupFault reading (setup.Scene fault) = reading ≡ Err (setup.Scene fault)
 IsSetupFault reading (setup.Link place kind) = reading ≡ Err (setup.Link place kind)
+IsSetupFault reading (setup.Uncovered _) = ⊥
 IsSetupFault reading (setup.Text _ _) = ⊥
+
+-- ---- of a text and of a plan
+
+-- what a fault of a text is, and what one of a plan
+abbrev pub of_text : TextFault → SetupFault
+of_text text.Memory = setup.Memory
+of_text (text.At line kind) = setup.Text line kind
+
+abbrev pub of_plan : NegotiateFault → SetupFault
+of_plan plan.Memory = setup.Memory
+of_plan (plan.Uncovered cycle) = setup.Uncovered cycle

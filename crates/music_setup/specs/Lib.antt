@@ -3,3 +3,4 @@ pub mod Faults
 pub mod Scenes
 pub mod Texts
 pub mod SmallScenes
+pub mod Setups

@@ -1,7 +1,7 @@
 -- The text of each fault, a line with its end.
-use Rattle.std.specs.Prelude.{ℕ, suc, ⊤, ◌<◌, List, [], ◌∷◌, ◌++◌, length, slice_index_or, codes, Option, Some, None}
+use Rattle.std.specs.Prelude.{ℕ, suc, ⊤, ◌<◌, ◌≤◌, List, [], ◌∷◌, ◌++◌, length, map, slice_index_or, codes, All, Option, Some, None}
 use Rattle.std.specs.Fmt.{decimal}
-use Rattle.config_text.specs.Pairs.{SettingList}
+use Rattle.config_text.specs.Pairs.{SectionList, SettingList}
 use Rattle.config_text.specs.declared.config.Config.{Config}
 use Rattle.config_text.specs.declared.text_kind.TextKind.{TextKind}
 use Rattle.config_text.specs.declared.text_kind.TextKind.TheVariants as line
@@ -11,12 +11,18 @@ use Rattle.app_scripts.specs.declared.fault.RuleFault.{RuleFault}
 use Rattle.app_scripts.specs.declared.fault.RuleFault.TheVariants as rule
 use Rattle.port_match.specs.declared.fault.LinkKind.{LinkKind}
 use Rattle.port_match.specs.declared.fault.LinkKind.TheVariants.{UnknownApp, UnknownPort, Direction, Kind, Width, Unmapped, PairTwice, ContTwice}
+use Rattle.scene_model.specs.Cover.{IsBounded, most_waits}
+use Rattle.scene_model.specs.declared.scene.AppDecl.{AppDecl}
+use Rattle.scene_model.specs.declared.scene.Scene.{Scene}
+use Rattle.scene_model.specs.declared.wait.Wait.{Wait}
+use Rattle.cycle_check.specs.CycleTexts.{IsBetween, cycle_text}
+use Rattle.music_setup.specs.SmallScenes.{plain_app}
 use Rattle.music_setup.specs.declared.fault.AppKind.{AppKind}
 use Rattle.music_setup.specs.declared.fault.AppKind.TheVariants.{NpText, Binary, TickText, TooManySteps, Ports, Rules, TooManyValues}
 use Rattle.music_setup.specs.declared.fault.SceneFault.{SceneFault}
 use Rattle.music_setup.specs.declared.fault.SceneFault.TheVariants.{StopMissing, StopText, App}
 use Rattle.music_setup.specs.declared.fault.SetupFault.{SetupFault}
-use Rattle.music_setup.specs.declared.fault.SetupFault.TheVariants.{Text, Scene, Link, Memory}
+use Rattle.music_setup.specs.declared.fault.SetupFault.TheVariants as setup
 
 -- LF
 abbrev pub line_end : ℕ
@@ -107,14 +113,33 @@ link_kind_name ContTwice = codes "ContTwice"
 unfoldable pub link_text : ℕ → LinkKind → List ℕ
 link_text place kind = at_place (codes "link fault: connection ") (suc place) (link_kind_name kind) ++ line_end ∷ []
 
+-- ---- a cycle
+
+abbrev pub sections_of : Option Config → SectionList
+sections_of None = []
+sections_of (Some config) = config.sections
+
+-- applications that have the names of the sections, and nothing else of theirs
+abbrev pub named_apps : SectionList → List AppDecl
+named_apps sections = map (λ (section : List ℕ × SettingList). plain_app section.0) sections
+
+-- a scene of these
+abbrev pub named_scene : SectionList → Scene
+named_scene sections = record { stop = 0; apps = named_apps sections; links = [] }
+
+-- a cycle is written with the names of the applications alone
+unfoldable pub uncovered_text : Option Config → List Wait → List ℕ
+uncovered_text config cycle = cycle_text (named_scene (sections_of config)) cycle
+
 -- ---- all faults
 
 -- the text of a fault of a configuration, or of a text that is none. Want of memory has none
 unfoldable pub text_of_fault : Option Config → SetupFault → List ℕ
-text_of_fault config (Text line kind) = text_fault line kind
-text_of_fault config (Scene fault) = codes "scene fault: " ++ scene_text config fault ++ line_end ∷ []
-text_of_fault config (Link place what) = link_text place what
-text_of_fault config Memory = []
+text_of_fault config (setup.Text line kind) = text_fault line kind
+text_of_fault config (setup.Scene fault) = codes "scene fault: " ++ scene_text config fault ++ line_end ∷ []
+text_of_fault config (setup.Link place what) = link_text place what
+text_of_fault config (setup.Uncovered cycle) = uncovered_text config cycle.0.items
+text_of_fault config setup.Memory = []
 
 -- application a stands in the configuration
 abbrev pub HasApp : Option Config → ℕ → Type 0
@@ -127,9 +152,16 @@ IsOfConfig config StopMissing = ⊤
 IsOfConfig config StopText = ⊤
 IsOfConfig config (App a kind) = HasApp config a
 
+-- a cycle of n applications whose numbers and length are within bounds
+pub record HasCycleText (n : ℕ) (cycle : List Wait) : Type 0 where
+  pub between : All (IsBetween n) cycle
+  pub bounded : All IsBounded cycle
+  pub short : length cycle ≤ most_waits
+
 -- the fault is no want of memory, and what it names stands in the configuration
 abbrev pub HasText : Option Config → SetupFault → Type 0
-HasText config (Text _ _) = ⊤
-HasText config (Scene fault) = IsOfConfig config fault
-HasText config (Link _ _) = ⊤
-HasText config Memory = ⊥
+HasText config (setup.Text _ _) = ⊤
+HasText config (setup.Scene fault) = IsOfConfig config fault
+HasText config (setup.Link _ _) = ⊤
+HasText config (setup.Uncovered cycle) = HasCycleText (length (sections_of config)) cycle.0.items
+HasText config setup.Memory = ⊥

@@ -1,17 +1,19 @@
 ghost use Rattle.std.specs.Prelude.{◌≡◌};
-ghost use Rattle.music_setup.specs.Faults.{of_links, of_ports, of_rules};
+ghost use Rattle.music_setup.specs.Faults.{of_links, of_plan, of_ports, of_rules, of_text};
 ghost use Rattle.music_setup.specs.declared.fault.AppFault.TheVariants as app;
 ghost use Rattle.music_setup.specs.declared.fault.SetupFault.TheVariants as setup;
 
 use app_scripts::RuleFault;
-use config_text::TextKind;
+use config_text::{TextFault, TextKind};
+use cycle_check::Cycle;
 use music_base::{AppId, LinkId, NoMemory};
 use port_match::{LinkKind, MatchFault};
 use port_table::PortFault;
+use tick_plan::NegotiateFault;
 
-/// Why a text, or a configuration, makes no scene: its first fault. First stand those of the text, then those of the
-/// stop and the applications, and then those of the connections.
-#[derive(Clone, Copy, Debug, PartialEq, Eq)]
+/// Why a text, or a configuration, is refused: its first fault. First stand those of the text, then those of the
+/// stop and the applications, then those of the connections, and then an uncovered cycle.
+#[derive(Debug, Drop)]
 pub enum SetupFault {
     /// The first faulty line of the text, from 1, and its first fault; or line 0 where the text is too long.
     Text { line: u64, kind: TextKind },
@@ -19,6 +21,9 @@ pub enum SetupFault {
     Scene(SceneFault),
     /// The first faulty connection, by its place from 0, and the first of its faults.
     Link { link: LinkId, kind: LinkKind },
+    /// A cycle of the scene's waits under stated limits that is not covered. No application waits twice in it, and its
+    /// first waiter has the least place.
+    Uncovered(Cycle),
     /// Memory was asked for and not found.
     Memory,
 }
@@ -108,6 +113,28 @@ impl From<MatchFault> for SetupFault {
         match fault {
             MatchFault::Link { link, kind } => SetupFault::Link { link, kind },
             MatchFault::Memory => SetupFault::Memory,
+        }
+    }
+}
+
+impl From<TextFault> for SetupFault {
+    ghost from_gives = { λ fault e. e ≡ of_text fault };
+
+    fn from(fault: TextFault) -> SetupFault {
+        match fault {
+            TextFault::At { line, kind } => SetupFault::Text { line, kind },
+            TextFault::Memory => SetupFault::Memory,
+        }
+    }
+}
+
+impl From<NegotiateFault> for SetupFault {
+    ghost from_gives = { λ fault e. e ≡ of_plan fault };
+
+    fn from(fault: NegotiateFault) -> SetupFault {
+        match fault {
+            NegotiateFault::Uncovered(cycle) => SetupFault::Uncovered(cycle),
+            NegotiateFault::Memory => SetupFault::Memory,
         }
     }
 }

@@ -1,9 +1,14 @@
 //! What the definitions say of all configurations, and of small ones.
-ghost use Rattle.std.specs.Prelude.{◌≡◌, ℕ, [], ◌∷◌, List, codes, IsOk, IfOk};
+ghost use Rattle.std.specs.Prelude.{◌≡◌, ℕ, [], ◌∷◌, List, Ok, Some, codes, map, IsOk, IfOk};
 ghost use Rattle.text_words.specs.InTurn.{IsFirst};
 ghost use Rattle.config_text.specs.declared.config.Config.{Config};
 ghost use Rattle.scene_model.specs.WorkedScenes.{link};
 ghost use Rattle.scene_model.specs.declared.scene.AppDecl.{AppDecl};
+ghost use Rattle.scene_model.specs.declared.scene.Scene.{Scene as AScene};
+ghost use Rattle.config_text.specs.Pairs.{SettingList};
+ghost use Rattle.cycle_check.specs.CycleTexts.{cycle_text};
+ghost use Rattle.cycle_check.specs.declared.cycle.Cycle.{Cycle};
+ghost use Rattle.music_setup.specs.Texts.{text_of_fault};
 ghost use Rattle.port_match.specs.declared.fault.LinkKind.TheVariants.{UnknownApp, Direction};
 ghost use Rattle.port_table.specs.declared.fault.PortFault.TheVariants.{PortText};
 ghost use Rattle.app_scripts.specs.declared.fault.RuleFault.TheVariants.{RuleText};
@@ -36,7 +41,7 @@ ghost use Rattle.music_setup.specs.declared.fault.AppKind.TheVariants.{
   TooManyValues,
 };
 ghost use Rattle.music_setup.specs.declared.fault.SceneFault.{SceneFault};
-ghost use Rattle.music_setup.specs.declared.fault.SetupFault.TheVariants.{Scene, Link};
+ghost use Rattle.music_setup.specs.declared.fault.SetupFault.TheVariants.{Scene, Link, Uncovered};
 ghost use Rattle.music_setup.specs.declared.fault.SceneFault.TheVariants.{
   StopMissing,
   StopText,
@@ -49,6 +54,13 @@ ghost use Rattle.music_setup.specs.declared.fault.SceneFault.TheVariants.{
 pub fn first_faults()
     ensures one_is_first { (config : Config) (stop : ℕ) (fault : SceneFault) → apps_until config stop ≡ Err fault → (i : ℕ) × (before : List AppDecl) × IsFirst (app_beside config stop) config.sections i before fault }
     ensures first_is_the_fault { (config : Config) (stop : ℕ) (i : ℕ) (before : List AppDecl) (fault : SceneFault) → IsFirst (app_beside config stop) config.sections i before fault → apps_until config stop ≡ Err fault }
+{}
+
+/// The applications of a scene have the names of the sections, in their order, so that a cycle of its waits has the text
+/// of `cycle_check`.
+pub fn cycles_name_applications()
+    ensures names { (config : Config) (scene : AScene) → scene_of config ≡ Ok scene → map (λ (app : AppDecl). app.name) scene.apps ≡ map (λ (section : List ℕ × SettingList). section.0) config.sections }
+    ensures text { (config : Config) (scene : AScene) (cycle : Cycle) → scene_of config ≡ Ok scene → text_of_fault (Some config) (Uncovered cycle) ≡ cycle_text scene cycle.0.items }
 {}
 
 /// What the connections of small configurations give: links, or a fault where the applications have none.

@@ -18,6 +18,7 @@ ghost use Rattle.music_setup.specs.Texts.{
   text_of_fault,
 };
 
+use crate::cycle_texts::uncovered_text;
 use crate::{AppKind, SceneFault, SetupFault};
 use app_scripts::RuleFault;
 use config_text::{Config, TextKind};
@@ -174,9 +175,10 @@ fn link_text(alloc: Global, link: LinkId, kind: LinkKind) -> Result<Vec<u8>, NoM
     Ok(text)
 }
 
-/// The text of a fault: one line with its end. Lines, ports, rules and connections are counted from 1, and an
-/// application is named as its section in the configuration is. It has to stand there, and the fault may not be want of
-/// memory.
+/// The text of a fault: one line with its end, and of a cycle a head, a line for each wait, and a line of the two sums.
+/// Lines, ports, rules and connections are counted from 1, and an application is named as its section in the
+/// configuration is. It has to stand there, and the fault may not be want of memory. The numbers of a cycle are within
+/// 10^30 of zero, and it has at most 64 waits.
 #[tactic(auto, unfolding(crate::specs::Texts::text_of_fault))]
 pub fn fault_text(
     alloc: Global,
@@ -186,15 +188,16 @@ pub fn fault_text(
     requires { HasText (option_copied config) fault.now }
     ensures { IfOk result (λ text. text.items ≡ text_of_fault (option_copied config.entry) fault.now) }
 {
-    match *fault {
-        SetupFault::Text { line, kind } => text_fault(alloc, line, kind),
+    match fault {
+        SetupFault::Text { line, kind } => text_fault(alloc, *line, *kind),
         SetupFault::Scene(fault) => {
             let mut text = Vec::from_slice(alloc, b"scene fault: ")?;
-            text.extend_from_slice(&scene_text(alloc, config, fault)?)?;
+            text.extend_from_slice(&scene_text(alloc, config, *fault)?)?;
             text.extend_from_slice(b"\n")?;
             Ok(text)
         }
-        SetupFault::Link { link, kind } => link_text(alloc, link, kind),
+        SetupFault::Link { link, kind } => link_text(alloc, *link, *kind),
+        SetupFault::Uncovered(cycle) => uncovered_text(alloc, config, cycle),
         SetupFault::Memory => Ok(Vec::new(alloc)),
     }
 }

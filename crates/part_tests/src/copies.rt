@@ -5,7 +5,7 @@ use music_base::{
     AppId, Block, Event, Item, Items, Message, Nanos, NoMemory, PortId, Rank, Sample, TryCopy,
     Word, copy_all,
 };
-use music_setup::{SetupFault, read_scene};
+use music_setup::read_scene;
 use scene_model::{Row, RowItem};
 use std::alloc::{AllocError, Global};
 use std::fmt::Debug;
@@ -82,12 +82,14 @@ fn message_row_copies(alloc: Global) -> Result<bool, NoMemory> {
     row_copies(alloc, RowItem::Message { time, word })
 }
 
-fn scene_copies(alloc: Global) -> Result<bool, SetupFault> {
+fn scene_copies(alloc: Global) -> bool {
     let Ok(config) = read_config(alloc, EVERY_RULE) else {
-        return Err(SetupFault::Memory);
+        return false;
     };
-    let scene = read_scene(alloc, &config)?;
-    Ok(copies(alloc, &scene)?)
+    match read_scene(alloc, &config) {
+        Ok(scene) => copies(alloc, &scene) == Ok(true),
+        Err(_) => false,
+    }
 }
 
 #[test]
@@ -99,7 +101,7 @@ fn items_and_blocks_are_copied(rt: HostRuntime) {
 #[test]
 fn forms_and_scenes_are_copied(rt: HostRuntime) {
     assert!(rt; form_copies(rt.alloc()));
-    assert!(rt; scene_copies(rt.alloc()) == Ok(true));
+    assert!(rt; scene_copies(rt.alloc()));
 }
 
 #[test]

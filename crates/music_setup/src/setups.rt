@@ -1,0 +1,45 @@
+//! From a configuration, or a text, to a scene and its plan.
+ghost use Rattle.std.specs.Prelude.{◌≡◌, ◌≢◌, ℕ, IfErr, IfOk, Ok, Some};
+ghost use Rattle.config_text.specs.declared.text_kind.TextKind.TheVariants.{Unbuilt};
+ghost use Rattle.music_setup.specs.Scenes.{scene_of};
+ghost use Rattle.music_setup.specs.Setups.{IsConfigFault, IsSound, IsTextFault, SpellsScene};
+ghost use Rattle.music_setup.specs.Texts.{HasText};
+ghost use Rattle.music_setup.specs.declared.fault.SetupFault.TheVariants.{Memory, Text};
+
+use crate::scenes::read_scene;
+use crate::{Ready, SetupFault};
+use config_text::{Config, read_config};
+use std::alloc::Global;
+use tick_plan::negotiate;
+
+/// The scene that a configuration describes, as [`read_scene`] gives it, and its plan, as `tick_plan::negotiate` gives it.
+///
+/// Refused is the first fault of the configuration, and where it has none a cycle of the scene's waits under stated
+/// limits that is not covered. A text fault is never the answer. Each fault but want of memory has a text beside the
+/// configuration.
+#[tactic(auto, using(crate::proofs::OfConfig::fault_of_config, crate::proofs::OfSetups::scene_fault, crate::proofs::OfSetups::plan_fault, crate::proofs::OfSetups::plan_has_text))]
+pub fn setup_config(alloc: Global, config: &Config) -> Result<Ready, SetupFault>
+    ensures scene { IfOk result (λ ready. scene_of config.now ≡ Ok ready.scene) }
+    ensures sound { IfOk result IsSound }
+    ensures fault { IfErr result (IsConfigFault config.now) }
+    ensures has_text { IfErr result (λ fault. fault ≢ Memory → HasText (Some config.now) fault) }
+{
+    let scene = read_scene(alloc, config)?;
+    let plan = negotiate(alloc, &scene)?;
+    Ok(Ready { scene, plan })
+}
+
+/// The scene of the configuration that the bytes spell, and its plan.
+///
+/// Refused is the first fault of the text, as `config_text::read_config` gives it, and where it has none that of the
+/// configuration, as [`setup_config`] gives it.
+#[tactic(auto, using(crate::proofs::OfSetups::text_fault, crate::proofs::OfSetups::spelled_fault, crate::proofs::OfSetups::text_built, crate::proofs::OfSetups::config_built))]
+pub fn setup(alloc: Global, bytes: &[u8]) -> Result<Ready, SetupFault>
+    ensures scene { IfOk result (λ ready. SpellsScene bytes.now ready.scene) }
+    ensures sound { IfOk result IsSound }
+    ensures fault { IfErr result (IsTextFault bytes.now) }
+    ensures never_unbuilt { IfErr result (λ fault. (line : ℕ) → fault ≢ Text line Unbuilt) }
+{
+    let config = read_config(alloc, bytes)?;
+    setup_config(alloc, &config)
+}
