@@ -1,13 +1,13 @@
 -- The least limit of a wait for room.
-use Rattle.std.proofs.Common.{◌≡◌, ◌≢◌, ℕ, ◌+◌, ◌*◌, ◌<◌, ◌≤◌, ℤ, pos, ◌+ℤ◌, ◌-ℤ◌, ◌*ℤ◌, ◌≤ℤ◌, ◌<ℤ◌, List, [], ◌∷◌, ◌++◌, length, refl, ap, sym, ◌∙◌, subst, arith, Vec, ⊎_elim}
+use Rattle.std.proofs.Common.{◌≡◌, ◌≢◌, ℕ, ◌+◌, ◌-◌, ◌*◌, ◌<◌, ◌≤◌, ℤ, pos, ◌+ℤ◌, ◌-ℤ◌, ◌*ℤ◌, ◌≤ℤ◌, ◌<ℤ◌, List, [], ◌∷◌, ◌++◌, length, refl, ap, sym, ◌∙◌, subst, arith, ⊎_elim}
 use Rattle.std.proofs.lemmas.Int.{ints}
+use Rattle.std.proofs.lemmas.List.{get_or_default}
 use Rattle.std.proofs.lemmas.List.Elements.{All-cons, All-weaker, All-push, Contains-append_left, Contains-push}
 use Rattle.std.proofs.lemmas.Bool.{cases_eq, cases_lt}
 use Rattle.std.proofs.Math.Nat.{mul-le-mul_left, mul-le-mul_right}
 use Rattle.std.proofs.Math.IntN.{pos-*ℤ-pos}
 use Rattle.std.specs.List.{All, Contains}
 use Rattle.std.specs.Prelude.{slice_index, map}
-use Rattle.std.specs.declared.alloc.Global.{Global}
 use Rattle.scene_model.specs.Cover.{IsWalk, sum_of, AreAmong, AllCovered, HasUncovered, Passes, IsWithin, greatest_shortfall}
 use Rattle.scene_model.specs.Limits.{most_apps}
 use Rattle.scene_model.specs.Waits.{greatest_limit}
@@ -15,7 +15,7 @@ use Rattle.scene_model.specs.declared.wait.Wait.{Wait}
 use Rattle.scene_model.proofs.Walks.{scaled-add, end_of, end_of-walk, length-le_from_once}
 use Rattle.scene_model.proofs.Cycles.{All-among, passed_are_covered}
 use Rattle.tick_plan.specs.Bounds.{greatest_rise, greatest_start}
-use Rattle.tick_plan.specs.Heights.{rise_of, AreGiven, IsRelaxed, walk_at}
+use Rattle.tick_plan.specs.Heights.{rise_of, HaveWalks, IsRelaxed}
 use Rattle.tick_plan.specs.Room.{IsRoomWait, room_under, need_of}
 use Rattle.tick_plan.specs.declared.room.RoomWait.{RoomWait}
 use Rattle.tick_plan.proofs.Walks.{rise_of-le, rise_of-le_greatest, rises-le, rises-le_greatest, walk_height-le, walk_height-end, short_from_once, comes_to-once, uncovered_from_rise}
@@ -29,6 +29,17 @@ rise_of-room_under n room m =
     let e = ap (λ z. pos n *ℤ z) apart in
     let t : n * (m * room.step) ≡ m * (n * room.step) = omega arith in
     omega (arith, ints, e, t, scaled-add n (w.allowance -ℤ w.burden) (pos (m * room.step)), pos-*ℤ-pos n (m * room.step))
+
+-- ---- the start
+
+-- one application starts above all that a walk can rise, and the others at 0
+pub low_starts : (heights : List ℕ) (app : ℕ) → slice_index heights app ≡ greatest_start → ((v : ℕ) → v ≢ app → slice_index heights v ≡ 0) → All (λ h. h ≤ greatest_start) heights
+low_starts heights app high others = λ k d lt.
+    rw (get_or_default heights k d 0 lt)
+    (⊎_elim
+    (λ (same : k ≡ app). omega (arith, ap (slice_index heights) same, high))
+    (λ (other : k ≢ app). omega (arith, others k other))
+    (cases_eq k app))
 
 -- ---- enough
 
@@ -46,18 +57,19 @@ enough_covers n all room m heights counted within h relaxed enough =
 -- ---- too little
 
 -- where the wait would raise its waiter, the walk of the awaited application comes to the waiter
-walk_comes_back : (n : ℕ) (all : List Wait) (room : RoomWait) (e : Wait) (starts heights : List ℕ) (walks : List (Vec Wait Global)) →
-    n ≤ most_apps → All (IsWithin n) all → AreGiven n all starts heights walks → room.without_room.awaited < n →
-    slice_index starts room.without_room.waiter ≡ greatest_start → ((v : ℕ) → v ≢ room.without_room.waiter → slice_index starts v ≡ 0) → rise_of n e ≤ℤ pos greatest_rise →
-    pos (slice_index heights room.without_room.waiter) <ℤ (rise_of n e +ℤ pos (slice_index heights room.without_room.awaited)) → end_of room.without_room.awaited (walk_at walks room.without_room.awaited) ≡ room.without_room.waiter
-walk_comes_back n all room e starts heights walks few within h lt high others own higher =
+walk_comes_back : (n : ℕ) (all : List Wait) (room : RoomWait) (e : Wait) (starts : ℕ → ℕ) (heights : List ℕ) →
+    n ≤ most_apps → All (IsWithin n) all → (h : HaveWalks n all starts heights) → (lt : room.without_room.awaited < n) →
+    starts room.without_room.waiter ≡ greatest_start → ((v : ℕ) → v ≢ room.without_room.waiter → starts v ≡ 0) → rise_of n e ≤ℤ pos greatest_rise →
+    pos (slice_index heights room.without_room.waiter) <ℤ (rise_of n e +ℤ pos (slice_index heights room.without_room.awaited)) →
+    end_of room.without_room.awaited (h.given room.without_room.awaited lt).0 ≡ room.without_room.waiter
+walk_comes_back n all room e starts heights few within h lt high others own higher =
     let f = rise_of n in
-    let ws = walk_at walks room.without_room.awaited in
-    let g = h.given room.without_room.awaited lt in
+    let ws = (h.given room.without_room.awaited lt).0 in
+    let g = (h.given room.without_room.awaited lt).1 in
     let short : length ws ≤ n = short_from_once n all ws within g.among g.once in
     let rises = walk_height-le f (λ v. 0) 0 greatest_rise (λ v. omega arith) room.without_room.awaited ws (rises-le_greatest n all ws few within g.among) in
     let sum : sum_of f ws ≤ℤ pos (0 + length ws * greatest_rise) = omega (arith, ints, rises, walk_height-end f (λ v. 0) room.without_room.awaited ws) in
-    let whole = walk_height-end f (slice_index starts) room.without_room.awaited ws in
+    let whole = walk_height-end f starts room.without_room.awaited ws in
     let under = h.starts_under room.without_room.waiter in
     ⊎_elim (λ (same : end_of room.without_room.awaited ws ≡ room.without_room.waiter). same)
     (λ (other : end_of room.without_room.awaited ws ≢ room.without_room.waiter).
@@ -65,24 +77,24 @@ walk_comes_back n all room e starts heights walks few within h lt high others ow
     (cases_eq (end_of room.without_room.awaited ws) room.without_room.waiter)
 
 -- so the wait and that walk are a cycle that is not covered
-pub less_uncovers : (n : ℕ) (all : List Wait) (room : RoomWait) (k : ℕ) (starts heights : List ℕ) (walks : List (Vec Wait Global)) →
-    n ≤ most_apps → All (IsWithin n) all → AreGiven n all starts heights walks → IsRoomWait n room →
-    slice_index starts room.without_room.waiter ≡ greatest_start → ((v : ℕ) → v ≢ room.without_room.waiter → slice_index starts v ≡ 0) →
+pub less_uncovers : (n : ℕ) (all : List Wait) (room : RoomWait) (k : ℕ) (starts : ℕ → ℕ) (heights : List ℕ) →
+    n ≤ most_apps → All (IsWithin n) all → HaveWalks n all starts heights → IsRoomWait n room →
+    starts room.without_room.waiter ≡ greatest_start → ((v : ℕ) → v ≢ room.without_room.waiter → starts v ≡ 0) →
     pos (k * (n * room.step)) <ℤ need_of n room.without_room heights → HasUncovered (all ++ room_under room k ∷ [])
-less_uncovers n all room k starts heights walks few within h is high others less =
+less_uncovers n all room k starts heights few within h is high others less =
     let e = room_under room k in
     let f = rise_of n in
-    let ws = walk_at walks room.without_room.awaited in
-    let g = h.given room.without_room.awaited is.within.awaited in
+    let ws = (h.given room.without_room.awaited is.within.awaited).0 in
+    let g = (h.given room.without_room.awaited is.within.awaited).1 in
     let higher : pos (slice_index heights room.without_room.waiter) <ℤ (f e +ℤ pos (slice_index heights room.without_room.awaited)) = omega (arith, ints, less, rise_of-room_under n room k) in
     let own : f e ≤ℤ pos greatest_rise = omega (arith, ints, rise_of-le_greatest n room.without_room few is.within.shortfall, rise_of-room_under n room k) in
-    let back = walk_comes_back n all room e starts heights walks few within h is.within.awaited high others own higher in
+    let back = walk_comes_back n all room e starts heights few within h is.within.awaited high others own higher in
     let P : ℕ → Type 0 = λ z. IsWalk room.without_room.awaited ws z in
     let last : g.last ≡ room.without_room.waiter = sym (end_of-walk room.without_room.awaited ws g.last g.walk) ∙ back in
     let closed : IsWalk room.without_room.awaited ws room.without_room.waiter = subst P last g.walk in
-    let top : slice_index starts (end_of room.without_room.awaited ws) ≡ greatest_start = ap (slice_index starts) back ∙ high in
+    let top : starts (end_of room.without_room.awaited ws) ≡ greatest_start = ap starts back ∙ high in
     let rises : pos 0 <ℤ sum_of f (e ∷ ws) =
-    omega (arith, ints, higher, g.height, walk_height-end f (slice_index starts) room.without_room.awaited ws, top, high, h.starts_under room.without_room.waiter) in
+    omega (arith, ints, higher, g.height, walk_height-end f starts room.without_room.awaited ws, top, high, h.starts_under room.without_room.waiter) in
     let more : List Wait = all ++ e ∷ [] in
     let among : AreAmong more (e ∷ ws) = All-cons (Contains more) e ws (Contains-push all e) (All-weaker (Contains all) (Contains more) (λ w i. Contains-append_left all (e ∷ []) w i) ws g.among) in
     let each : All (IsWithin n) ws = All-among (IsWithin n) all ws within g.among in
@@ -92,28 +104,28 @@ less_uncovers n all room k starts heights walks few within h is high others less
 
 -- ---- the limit is small
 
-pub need_of-small : (n : ℕ) (all : List Wait) (room : RoomWait) (starts heights : List ℕ) (walks : List (Vec Wait Global)) →
-    n ≤ most_apps → All (IsWithin n) all → AreGiven n all starts heights walks → IsRoomWait n room →
-    slice_index starts room.without_room.waiter ≡ greatest_start → need_of n room.without_room heights ≤ℤ pos ((most_apps + 1) * (n * greatest_shortfall + 1))
-need_of-small n all room starts heights walks few within h is high =
+pub need_of-small : (n : ℕ) (all : List Wait) (room : RoomWait) (starts : ℕ → ℕ) (heights : List ℕ) →
+    n ≤ most_apps → All (IsWithin n) all → HaveWalks n all starts heights → IsRoomWait n room →
+    starts room.without_room.waiter ≡ greatest_start → need_of n room.without_room heights ≤ℤ pos ((most_apps + 1) * (n * greatest_shortfall + 1))
+need_of-small n all room starts heights few within h is high =
     let f = rise_of n in
-    let ws = walk_at walks room.without_room.awaited in
-    let g = h.given room.without_room.awaited is.within.awaited in
+    let ws = (h.given room.without_room.awaited is.within.awaited).0 in
+    let g = (h.given room.without_room.awaited is.within.awaited).1 in
     let short : length ws ≤ n = short_from_once n all ws within g.among g.once in
     let few_waits : length ws ≤ most_apps = omega (arith, short, few) in
     let times : length ws * (n * greatest_shortfall + 1) ≤ most_apps * (n * greatest_shortfall + 1) = mul-le-mul_right (n * greatest_shortfall + 1) few_waits in
     let own : f room.without_room ≤ℤ pos (n * greatest_shortfall + 1) = rise_of-le n room.without_room is.within.shortfall in
-    let top = walk_height-le f (slice_index starts) greatest_start (n * greatest_shortfall + 1) h.starts_low room.without_room.awaited ws (rises-le n all ws within g.among) in
+    let top = walk_height-le f starts greatest_start (n * greatest_shortfall + 1) h.starts_low room.without_room.awaited ws (rises-le n all ws within g.among) in
     omega (arith, ints, own, times, g.height, high, h.starts_under room.without_room.waiter, top)
 
 -- a limit is small where each smaller one is too little
 pub limit_small : (n step m : ℕ) (need : ℤ) → 1 ≤ n → 1 ≤ step → need ≤ℤ pos ((most_apps + 1) * (n * greatest_shortfall + 1)) →
-    ((k : ℕ) → 1 ≤ k → k < m → pos (k * (n * step)) <ℤ need) → m ≤ greatest_limit
+    ((k : ℕ) → 1 ≤ k → k < m → pos (k * (n * step)) <ℤ need) → m < greatest_limit
 limit_small n step m need some step_some small least =
     ⊎_elim
-    (λ (lt : greatest_limit < m).
-    let less = least greatest_limit (omega arith) lt in
+    (λ (lt : m < greatest_limit). lt)
+    (λ (ge : greatest_limit ≤ m).
+    let less = least (greatest_limit - 1) (omega arith) (omega arith) in
     let times : n * 1 ≤ n * step = mul-le-mul_left n step_some in
     absurd (omega (arith, ints, less, times, small)))
-    (λ (ge : m ≤ greatest_limit). ge)
-    (cases_lt greatest_limit m)
+    (cases_lt m greatest_limit)

@@ -1,11 +1,12 @@
 -- The waits of a scene as its limits are chosen.
-use Rattle.std.proofs.Common.{◌≡◌, ◌≢◌, ℕ, zero, suc, ◌+◌, ◌*◌, ◌<◌, ◌≤◌, ℤ, pos, ◌+ℤ◌, ◌-ℤ◌, List, [], ◌∷◌, ◌++◌, length, get_or, Option, None, Some, refl, ap, sym, ◌∙◌, subst, arith, ⊎_elim, get_or-set_same, get_or-set_other}
+use Rattle.std.proofs.Common.{◌≡◌, ◌≢◌, ℕ, zero, suc, ◌+◌, ◌*◌, ◌<◌, ℤ, pos, ◌+ℤ◌, ◌-ℤ◌, List, [], ◌∷◌, ◌++◌, length, get_or, set, Option, None, Some, refl, ap, sym, ◌∙◌, subst, arith, ⊎_elim, get_or-set_same, get_or-set_other}
 use Rattle.std.proofs.lemmas.Int.{ints}
 use Rattle.std.proofs.lemmas.Bool.{cases_eq}
-use Rattle.std.proofs.lemmas.List.Elements.{All-append, All-contains, All-cons, All-nil, All-weaker, Contains-append_left, Contains-get_or, Contains-push}
+use Rattle.std.proofs.lemmas.List.{append-nil}
+use Rattle.std.proofs.lemmas.List.Elements.{All-append, All-contains, All-cons, All-nil, All-weaker, Contains-append_left, Contains-append_right, Contains-get_or, Contains-push}
 use Rattle.std.specs.List.{All, Contains}
 use Rattle.scene_model.specs.Clocks.{tick}
-use Rattle.scene_model.specs.Cover.{AllCovered, HasUncovered}
+use Rattle.scene_model.specs.Cover.{AllCovered, AreAmong, HasUncovered}
 use Rattle.scene_model.specs.Faults.{IsFaultless}
 use Rattle.scene_model.specs.Scenes.{app_at, sender, receiver}
 use Rattle.scene_model.specs.Waits.{Limits, block_wait, room_wait, rounded, waits, waits_of}
@@ -14,13 +15,61 @@ use Rattle.scene_model.specs.declared.scene.Scene.{Scene}
 use Rattle.scene_model.specs.declared.wait.Wait.{Wait}
 use Rattle.scene_model.specs.declared.wait.WaitKind.TheVariants.{ForRoom}
 use Rattle.scene_model.proofs.Bounds.{timed_at}
-use Rattle.scene_model.proofs.Cycles.{HasAll, AllCovered-fewer, HasUncovered-more}
+use Rattle.scene_model.proofs.Cycles.{HasAll, All-among, AllCovered-fewer, HasUncovered-more}
 use Rattle.scene_model.proofs.SceneWaits.{limit_of, Contains-waits, All-waits, block_among, room_among}
 use Rattle.scene_model.proofs.WaitBounds.{room_within}
-use Rattle.tick_plan.specs.Choices.{with_limit, IsLeastAt}
+use Rattle.tick_plan.specs.Choices.{AreSame, IsChosen, IsLeastAt, room_chosen}
 use Rattle.tick_plan.specs.Room.{room_under, IsRoomWait}
 
+-- ---- the same waits
+
+HasAll-among : (more fewer : List Wait) → AreAmong more fewer → HasAll more fewer
+HasAll-among more fewer among = λ w in'. All-contains (Contains more) fewer w among in'
+
+among_from : (more fewer : List Wait) → HasAll more fewer → AreAmong more fewer
+among_from more fewer has = λ k d lt. has (get_or fewer k d) (Contains-get_or fewer k d lt)
+
+AreSame-from : (some others : List Wait) → HasAll others some → HasAll some others → AreSame some others
+AreSame-from some others there here = record { among = among_from others some there; contained = among_from some others here }
+
+AreSame-trans : (xs ys zs : List Wait) → AreSame xs ys → AreSame ys zs → AreSame xs zs
+AreSame-trans xs ys zs h i = record { among = All-among (Contains zs) ys xs i.among h.among; contained = All-among (Contains xs) ys zs h.contained i.contained }
+
+pub AreSame-refl : (ws : List Wait) → AreSame ws ws
+AreSame-refl ws = AreSame-from ws ws (λ w h. h) (λ w h. h)
+
+among_append : (more fewer ends : List Wait) → AreAmong more fewer → AreAmong (more ++ ends) (fewer ++ ends)
+among_append more fewer ends among =
+    All-append (Contains (more ++ ends)) fewer ends (All-weaker (Contains more) (Contains (more ++ ends)) (λ w in'. Contains-append_left more ends w in') fewer among)
+    (among_from (more ++ ends) ends (λ w in'. Contains-append_right more ends w in'))
+
+AreSame-append : (xs ys ends : List Wait) → AreSame xs ys → AreSame (xs ++ ends) (ys ++ ends)
+AreSame-append xs ys ends h = record { among = among_append ys xs ends h.among; contained = among_append xs ys ends h.contained }
+
+-- what holds of each of them
+pub AreSame-All : (P : Wait → Type 0) (some others : List Wait) → AreSame some others → All P some → All P others
+AreSame-All P some others h each = All-among P some others each h.contained
+
+pub AreSame-AllCovered : (some others : List Wait) → AreSame some others → AllCovered some → AllCovered others
+AreSame-AllCovered some others h = AllCovered-fewer some others (HasAll-among some others h.contained)
+
+pub AreSame-HasUncovered : (some others : List Wait) → AreSame some others → HasUncovered some → HasUncovered others
+AreSame-HasUncovered some others h = HasUncovered-more others some (HasAll-among others some h.among)
+
+-- a least limit is one over whatever list of them
+pub IsLeastAt-same : (scene : Scene) (some others : List Wait) (c m : ℕ) → AreSame some others → IsLeastAt scene some c m → IsLeastAt scene others c m
+IsLeastAt-same scene some others c m h least = record {
+  some = least.some;
+  covered = AreSame-AllCovered (some ++ room_wait scene c m ∷ []) (others ++ room_wait scene c m ∷ []) (AreSame-append some others (room_wait scene c m ∷ []) h) least.covered;
+  least = λ less from below.
+      AreSame-HasUncovered (some ++ room_wait scene c less ∷ []) (others ++ room_wait scene c less ∷ []) (AreSame-append some others (room_wait scene c less ∷ []) h) (least.least less from below);
+}
+
 -- ---- the waits with one limit more
+
+-- the limits with m at connection c
+abbrev pub with_limit : Limits → ℕ → ℕ → Limits
+with_limit limits c m = set limits c (Some m)
 
 All-one : (P : Wait → Type 0) (w : Wait) → P w → All P (w ∷ [])
 All-one P w h = All-cons P w [] h (All-nil P)
@@ -72,6 +121,11 @@ HasAll-with_limit scene limits c m link lt none =
     All-append has (waits scene limits) (room_wait scene c m ∷ []) old (All-one has (room_wait scene c m) (room_among scene more c m link here)) in
     λ w in'. All-contains has (waits scene limits ++ room_wait scene c m ∷ []) w both in'
 
+pub AreSame-with_room : (scene : Scene) (limits : Limits) (c m : ℕ) → c < length scene.links → c < length limits → get_or limits c None ≡ None →
+    AreSame (waits scene limits ++ room_wait scene c m ∷ []) (waits scene (with_limit limits c m))
+AreSame-with_room scene limits c m link lt none =
+    AreSame-from (waits scene limits ++ room_wait scene c m ∷ []) (waits scene (with_limit limits c m)) (HasAll-with_limit scene limits c m link lt none) (HasAll-with_room scene limits c m link lt)
+
 -- ---- the wait for room of a connection
 
 -- from its wait under a limit of 0
@@ -102,19 +156,20 @@ IsRoomWait-of scene c step faultless link is =
       step = rw is timed.sends.tick_to;
     }
 
--- ---- a limit
-
-pub IsLeastAt-of : (scene : Scene) (limits : Limits) (c m : ℕ) → c < length scene.links → c < length limits → get_or limits c None ≡ None → 1 ≤ m →
-    AllCovered (waits scene limits ++ room_wait scene c m ∷ []) →
-    ((k : ℕ) → 1 ≤ k → k < m → HasUncovered (waits scene limits ++ room_wait scene c k ∷ [])) → IsLeastAt scene limits c m
-IsLeastAt-of scene limits c m link lt none some covered least = record {
-  some = some;
-  covered = AllCovered-fewer (waits scene limits ++ room_wait scene c m ∷ []) (waits scene (with_limit limits c m)) (HasAll-with_room scene limits c m link lt) covered;
-  least = λ k from below. HasUncovered-more (waits scene (with_limit limits c k)) (waits scene limits ++ room_wait scene c k ∷ []) (HasAll-with_limit scene limits c k link lt none) (least k from below);
-}
-
 -- a limit that a connection has already makes no difference
 pub with_limit-same : (limits : Limits) (c m : ℕ) → get_or limits c None ≡ Some m → with_limit limits c m ≡ limits
 with_limit-same [] c m is = refl
 with_limit-same (x ∷ xs) zero m is = ap (λ y. y ∷ xs) (sym is)
 with_limit-same (x ∷ xs) (suc c) m is = ap (λ ys. x ∷ ys) (with_limit-same xs c m is)
+
+-- ---- a limit
+
+-- the waits that count, with the wait for room under the limit that is chosen
+pub AreSame-with_limit : (scene : Scene) (limits : Limits) (all : List Wait) (c m : ℕ) (stated : Option ℕ) → c < length scene.links → c < length limits → get_or limits c None ≡ stated →
+    AreSame all (waits scene limits) → IsChosen scene all c stated m → AreSame (all ++ room_chosen scene c stated m) (waits scene (with_limit limits c m))
+AreSame-with_limit scene limits all c m (Some given) link lt is same chosen =
+    let P : Limits → Type 0 = λ ls. AreSame (all ++ []) (waits scene ls) in
+    subst P (sym (with_limit-same limits c m (is ∙ ap (λ g. Some g) (sym chosen)))) (rw (append-nil all) same)
+AreSame-with_limit scene limits all c m None link lt is same chosen =
+    AreSame-trans (all ++ room_wait scene c m ∷ []) (waits scene limits ++ room_wait scene c m ∷ []) (waits scene (with_limit limits c m))
+    (AreSame-append all (waits scene limits) (room_wait scene c m ∷ []) same) (AreSame-with_room scene limits c m link lt is)

@@ -1,7 +1,8 @@
 -- The search for potentials: heights of applications, and the walks of waits that give them.
-use Rattle.std.specs.Prelude.{◌≡◌, ◌≤◌, ◌<◌, ◌-◌, ◌==◌, ℕ, ℤ, pos, ◌+ℤ◌, ◌-ℤ◌, ◌*ℤ◌, ◌≤ℤ◌, List, [], ◌∷◌, Vec, slice_index, slice_index_or, length, map, count_by, sum_by}
+use Rattle.std.specs.Prelude.{◌≡◌, ◌≤◌, ◌<◌, ◌-◌, ◌==◌, ℕ, ℤ, pos, ◌+ℤ◌, ◌-ℤ◌, ◌*ℤ◌, ◌≤ℤ◌, List, [], ◌∷◌, Vec, slice_index, slice_index_or, length, map, All, count_by, sum_by}
 use Rattle.std.specs.declared.alloc.Global.{Global}
-use Rattle.scene_model.specs.Cover.{IsWalk, AreAmong}
+use Rattle.scene_model.specs.Cover.{IsWalk, AreAmong, AllCovered, IsWithin}
+use Rattle.scene_model.specs.Limits.{most_apps}
 use Rattle.scene_model.specs.declared.wait.Wait.{Wait}
 use Rattle.tick_plan.specs.Bounds.{greatest_start, greatest_height}
 use Rattle.tick_plan.specs.declared.search.Search.{Search}
@@ -38,23 +39,38 @@ pub record GivesHeight (f : Wait → ℤ) (starts heights : ℕ → ℕ) (all : 
   pub away : comes_to a ws ≡ 0
   pub once : (x : ℕ) → comes_to x ws ≤ 1
 
--- ---- the state of the search
+-- ---- the state of a search
+
+-- each of n applications has its height by some walk
+pub record HaveWalks (n : ℕ) (all : List Wait) (starts : ℕ → ℕ) (heights : List ℕ) : Type 0 where
+  pub counted : length heights ≡ n
+  pub starts_low : (v : ℕ) → starts v ≤ greatest_start
+  pub starts_under : (v : ℕ) → starts v ≤ slice_index heights v
+  pub given : (v : ℕ) → v < n → (ws : List Wait) × GivesHeight (rise_of n) starts (slice_index heights) all v ws
+
+-- heights on their way up, by waits of which every cycle is covered
+pub record IsRising (n : ℕ) (all : List Wait) (starts : ℕ → ℕ) (heights : List ℕ) : Type 0 where
+  pub few : n ≤ most_apps
+  pub within : All (IsWithin n) all
+  pub covered : AllCovered all
+  pub walks : HaveWalks n all starts heights
+
+-- no application starts above 0
+abbrev pub at_zero : ℕ → ℕ
+at_zero v = 0
 
 -- the walk that is kept for an application
 abbrev pub walk_at : List (Vec Wait Global) → ℕ → List Wait
 walk_at walks v = slice_index_or (map (λ (walk : Vec Wait Global). walk.items) walks) v []
 
--- each of n applications has a walk that gives it its height
-pub record AreGiven (n : ℕ) (all : List Wait) (starts heights : List ℕ) (walks : List (Vec Wait Global)) : Type 0 where
-  pub starts_counted : length starts ≡ n
+-- each of n applications has its height by the walk that is kept for it
+pub record AreGiven (n : ℕ) (all : List Wait) (heights : List ℕ) (walks : List (Vec Wait Global)) : Type 0 where
   pub heights_counted : length heights ≡ n
   pub walks_counted : length walks ≡ n
-  pub starts_low : (v : ℕ) → slice_index starts v ≤ greatest_start
-  pub starts_under : (v : ℕ) → slice_index starts v ≤ slice_index heights v
-  pub given : (v : ℕ) → v < n → GivesHeight (rise_of n) (slice_index starts) (slice_index heights) all v (walk_at walks v)
+  pub given : (v : ℕ) → v < n → GivesHeight (rise_of n) at_zero (slice_index heights) all v (walk_at walks v)
 
 abbrev pub IsSearch : ℕ → List Wait → Search → Type 0
-IsSearch n all search = AreGiven n all search.starts.items search.heights.items search.walks.items
+IsSearch n all search = AreGiven n all search.heights.items search.walks.items
 
 -- the wait raises its waiter no higher than it lies
 pub record IsRelaxed (n : ℕ) (heights : List ℕ) (w : Wait) : Type 0 where

@@ -1,8 +1,7 @@
 ghost use Rattle.std.specs.Prelude.{◌≡◌, length, map, Some, All, IfOk, IfErr};
-ghost use Rattle.std.specs.Int.{IsInRange};
 ghost use Rattle.scene_model.specs.Cover.{AllCovered, Passes};
 ghost use Rattle.scene_model.specs.Faults.{IsFaultless};
-ghost use Rattle.scene_model.specs.Waits.{IsLawfulLimit, greatest_limit, waits};
+ghost use Rattle.scene_model.specs.Waits.{IsLawfulLimit, waits};
 ghost use Rattle.tick_plan.specs.Faults.{TellsUncovered};
 ghost use Rattle.tick_plan.specs.Plans.{IsPotential};
 
@@ -44,26 +43,4 @@ pub(crate) fn given(alloc: Global, limits: &[u64]) -> Result<Vec<Option<u64>>, N
         given.push(Some(*limit))?;
     }
     Ok(given)
-}
-
-/// Potentials for limits under which every cycle is covered.
-pub(crate) fn covered_potentials(
-    alloc: Global,
-    scene: &Scene,
-    limits: &[u64],
-) -> Result<Vec<i128>, NoMemory>
-    requires scene { IsFaultless scene.now }
-    requires counted { length limits.now ≡ length scene.now.links }
-    requires in_range { All (IsInRange 1 greatest_limit) limits.now }
-    requires covered { AllCovered (waits scene.now (map (λ m. Some m) limits.now)) }
-    ensures counted { IfOk result (λ p. length p.items ≡ length scene.now.apps) }
-    ensures near { IfOk result (λ p. All IsPotential p.items) }
-    ensures passed { IfOk result (λ p. All (Passes (length scene.now.apps) p.items) (waits scene.now (map (λ m. Some m) limits.now))) }
-{
-    let given = given(alloc, limits)?;
-    match cover(alloc, scene, &given) {
-        Ok(potentials) => Ok(potentials),
-        Err(NegotiateFault::Memory) => Err(NoMemory),
-        Err(NegotiateFault::Uncovered(_)) => unreachable!(),
-    }
 }

@@ -5,11 +5,10 @@ ghost use Rattle.scene_model.specs.Waits.{greatest_limit};
 ghost use Rattle.tick_plan.specs.Bounds.{greatest_start, greatest_height};
 ghost use Rattle.tick_plan.specs.Room.{IsRoomWait, need_of, room_under};
 
-use crate::fault::NegotiateFault;
-use crate::relaxing::relax_all;
+use crate::heights::no_heights;
+use crate::raising::raise_all;
 use crate::rising::rise;
 use crate::room::RoomWait;
-use crate::search::start;
 use music_base::{AppId, NoMemory};
 use scene_model::Wait;
 use std::alloc::Global;
@@ -39,7 +38,7 @@ fn starts_above(alloc: Global, applications: u32, app: AppId) -> Result<Vec<u128
     ensures high { IfOk result (λ starts. slice_index starts.items app ≡ greatest_start) }
     ensures others { IfOk result (λ starts. (v : ℕ) → v ≢ app → slice_index starts.items v ≡ 0) }
 {
-    let mut starts = vec![in alloc; 0; applications as usize]?;
+    let mut starts = no_heights(alloc, applications)?;
     starts[app.0 as usize] = ABOVE_WALKS;
     Ok(starts)
 }
@@ -73,17 +72,12 @@ pub(crate) fn least_limit(
     requires room { IsRoomWait applications room.now }
     requires covered { AllCovered waits.now }
     ensures some { IfOk result (λ m. 1 ≤ m) }
-    ensures small { IfOk result (λ m. m ≤ greatest_limit) }
+    ensures below { IfOk result (λ m. m < greatest_limit) }
     ensures covered { IfOk result (λ m. AllCovered (waits.now ++ room_under room.now m ∷ [])) }
     ensures least { IfOk result (λ m. (k : ℕ) → 1 ≤ k → k < m → HasUncovered (waits.now ++ room_under room.now k ∷ [])) }
 {
-    let starts = starts_above(alloc, applications, room.without_room.waiter)?;
-    let mut search = start(alloc, starts)?;
-    match relax_all(alloc, applications, waits, &mut search) {
-        Ok(()) => {}
-        Err(NegotiateFault::Memory) => return Err(NoMemory),
-        Err(NegotiateFault::Uncovered(_)) => unreachable!(),
-    }
-    let need = need(applications, &room.without_room, &search.heights);
+    let mut heights = starts_above(alloc, applications, room.without_room.waiter)?;
+    raise_all(applications, waits, &mut heights);
+    let need = need(applications, &room.without_room, &heights);
     Ok(least_times(need, applications as u64 * room.step))
 }

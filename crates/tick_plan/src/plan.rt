@@ -2,13 +2,14 @@ ghost use Rattle.std.specs.Prelude.{◌≡◌, map, IfOk, IfErr};
 ghost use Rattle.std.specs.Option.{is_some};
 ghost use Rattle.scene_model.specs.Faults.{IsFaultless};
 ghost use Rattle.scene_model.specs.Waits.{AreLimits, IsAccepted, stated_limits, waits};
+ghost use Rattle.tick_plan.specs.Choices.{HasChosenBelow};
 ghost use Rattle.tick_plan.specs.Faults.{TellsUncovered};
 ghost use Rattle.tick_plan.specs.Plans.{PlanFits};
 
 use crate::choosing::limits_in_turn;
-use crate::covering::{cover, covered_potentials};
 use crate::fault::NegotiateFault;
-use latency_graph::stated_limits;
+use crate::potentials::{cover_waits, potentials};
+use latency_graph::{stated_limits, waits};
 use music_base::NoMemory;
 use scene_model::Scene;
 use std::alloc::Global;
@@ -43,15 +44,18 @@ fn which_stated(alloc: Global, stated: &[Option<u64>]) -> Result<Vec<bool>, NoMe
 pub fn negotiate(alloc: Global, scene: &Scene) -> Result<Plan, NegotiateFault>
     requires { IsFaultless scene.now }
     ensures limits { IfOk result (λ plan. AreLimits scene.now plan.limits.items) }
+    ensures below { IfOk result (λ plan. HasChosenBelow scene.now plan.limits.items) }
     ensures stated { IfOk result (λ plan. plan.stated.items ≡ map is_some (stated_limits scene.now)) }
     ensures fits { IfOk result (PlanFits scene.now) }
     ensures accepted { IfOk result (λ _. IsAccepted scene.now) }
     ensures uncovered { IfErr result (TellsUncovered (waits scene.now (stated_limits scene.now))) }
 {
+    let applications = scene.apps.len() as u32;
     let stated = stated_limits(alloc, scene)?;
-    cover(alloc, scene, &stated)?;
-    let limits = limits_in_turn(alloc, scene, &stated)?;
-    let potentials = covered_potentials(alloc, scene, &limits)?;
+    let mut waits = waits(alloc, scene, &stated)?;
+    cover_waits(alloc, applications, &waits)?;
+    let limits = limits_in_turn(alloc, scene, &stated, &mut waits)?;
+    let potentials = potentials(alloc, applications, &waits)?;
     Ok(Plan {
         limits,
         stated: which_stated(alloc, &stated)?,

@@ -28,7 +28,6 @@ fn relax(
     requires at { at < length waits.now }
     requires search { IsSearch applications waits.now search.old }
     ensures search { IfOk result (λ _. IsSearch applications waits.now search.new) }
-    ensures starts { IfOk result (λ _. search.new.starts ≡ search.old.starts) }
     ensures relaxed { IfOk result (λ raised. OnFalse raised ((d : Wait) → IsRelaxed applications search.old.heights.items (slice_index_or waits.now at d))) }
     ensures same { IfOk result (λ raised. OnFalse raised (search.new.heights.items ≡ search.old.heights.items)) }
     ensures raised { IfOk result (λ raised. OnTrue raised (gap_of search.new.heights.items < gap_of search.old.heights.items)) }
@@ -61,7 +60,6 @@ fn relax_each(
     requires within { All (IsWithin applications) waits.now }
     requires search { IsSearch applications waits.now search.old }
     ensures search { IfOk result (λ _. IsSearch applications waits.now search.new) }
-    ensures starts { IfOk result (λ _. search.new.starts ≡ search.old.starts) }
     ensures relaxed { IfOk result (λ raised. OnFalse raised (All (IsRelaxed applications search.new.heights.items) waits.now)) }
     ensures raised { IfOk result (λ raised. OnTrue raised (gap_of search.new.heights.items < gap_of search.old.heights.items)) }
     ensures uncovered { IfErr result (TellsUncovered waits.now) }
@@ -86,7 +84,6 @@ pub(crate) fn relax_all(
     requires within { All (IsWithin applications) waits.now }
     requires search { IsSearch applications waits.now search.old }
     ensures search { IfOk result (λ _. IsSearch applications waits.now search.new) }
-    ensures starts { IfOk result (λ _. search.new.starts ≡ search.old.starts) }
     ensures relaxed { IfOk result (λ _. All (IsRelaxed applications search.new.heights.items) waits.now) }
     ensures uncovered { IfErr result (TellsUncovered waits.now) }
 {

@@ -1,37 +1,39 @@
-use Rattle.std.proofs.Common.{◌≡◌, ℕ, ◌+◌, ◌<◌, length, List, [], ◌∷◌, ◌++◌, None, get_or, ap, sym, ◌∙◌, subst, arith}
+use Rattle.std.proofs.Common.{◌≡◌, ℕ, ◌+◌, ◌<◌, length, List, [], ◌∷◌, ◌++◌, Option, None, get_or, ap, sym, ◌∙◌, subst, arith}
 use Rattle.std.proofs.lemmas.List.{length-append}
 use Rattle.std.specs.Int.{IsInRange}
-use Rattle.scene_model.specs.Cover.{AllCovered}
-use Rattle.scene_model.specs.Waits.{Limits, greatest_limit, waits}
+use Rattle.scene_model.specs.Faults.{IsFaultless}
+use Rattle.scene_model.specs.Waits.{greatest_limit, stated}
 use Rattle.scene_model.specs.declared.scene.Scene.{Scene}
-use Rattle.tick_plan.specs.Choices.{IsChosen, with_limit}
-use Rattle.tick_plan.proofs.InTurn.{IsUnderWay, IsUnderWay-start, IsUnderWay-push, all_chosen, length-stated_limits}
+use Rattle.scene_model.specs.declared.wait.Wait.{Wait}
+use Rattle.tick_plan.specs.Choices.{IsBelowUnless, IsChosen, room_chosen}
+use Rattle.tick_plan.proofs.InTurn.{IsUnderWay, IsUnderWay-start, IsUnderWay-push, all_chosen, length-stated_limits, stated_limits-at}
 use Rattle.tick_plan.proofs.choosing.limits_in_turn.Goals as goal
 
 pub loop-c-init : goal.loop-c-init
 loop-c-init c =
-    let stated = c.in_ok-counting.ensures.items in
     let none = c.new-limits.ensures.items in
     record {
       so_far = ap length none;
-      under_way = rw none (IsUnderWay-start c.args.scene.now c.in_ok-counting.counting.items (stated ∙ c.requires.stated) (rw stated c.requires.lawful) c.requires.accepted);
+      under_way = rw none (IsUnderWay-start c.args.scene.now c.args.counting.now.items c.requires.counting c.requires.within c.requires.covered);
     }
 
-pub overflow_cast-c : goal.overflow_cast-c
-overflow_cast-c c =
-    omega (arith, c.loop-c-test.true, ap length c.requires.stated, length-stated_limits c.args.scene.now, c.requires.scene.few_links)
+pub choose-requires-clause-link : goal.choose-requires-clause-link
+choose-requires-clause-link c = omega (arith, c.loop-c-test.true, ap length c.requires.stated, length-stated_limits c.args.scene.now)
 
-pushed : (scene : Scene) (all now : Limits) (limits new : List ℕ) (c m : ℕ) → length limits ≡ c → IsUnderWay scene all limits → c < length scene.links → now ≡ all → new ≡ limits ++ m ∷ [] →
-    IsInRange 1 greatest_limit m → IsChosen scene now c (get_or now c None) m → AllCovered (waits scene (with_limit now c m)) → IsUnderWay scene (with_limit all c m) new
-pushed scene all now limits new c m so_far h link same new_is in_range chosen covered =
-    let P : Limits → Type 0 = λ ls. IsChosen scene ls c (get_or ls c None) m in
-    let Q : Limits → Type 0 = λ ls. AllCovered (waits scene (with_limit ls c m)) in
-    let chosen' : IsChosen scene all c (get_or all c None) m = subst P same chosen in
-    let covered' : AllCovered (waits scene (with_limit all c m)) = subst Q same covered in
-    let R : ℕ → Type 0 = λ x. IsChosen scene all x (get_or all x None) m in
-    let S : ℕ → Type 0 = λ x. AllCovered (waits scene (with_limit all x m)) in
-    let T : ℕ → Type 0 = λ x. IsUnderWay scene (with_limit all x m) (limits ++ m ∷ []) in
-    rw new_is (subst T so_far (IsUnderWay-push scene all limits m h (omega (arith, so_far, link)) in_range (subst R (sym so_far) chosen') (subst S (sym so_far) covered')))
+pub overflow_cast-c : goal.overflow_cast-c
+overflow_cast-c c = omega (arith, c.loop-c-test.true, ap length c.requires.stated, length-stated_limits c.args.scene.now, c.requires.scene.few_links)
+
+pushed : (scene : Scene) (all after : List Wait) (limits new : List ℕ) (c m : ℕ) (limit : Option ℕ) → IsFaultless scene → length limits ≡ c → IsUnderWay scene all limits → c < length scene.links →
+    limit ≡ stated scene c → new ≡ limits ++ m ∷ [] → IsInRange 1 greatest_limit m → IsBelowUnless limit m → IsChosen scene all c limit m →
+    after ≡ all ++ room_chosen scene c limit m → IsUnderWay scene after new
+pushed scene all after limits new c m limit faultless so_far h link is new_is in_range below chosen after_is =
+    let P : ℕ → Option ℕ → Type 0 = λ x l. IsChosen scene all x l m in
+    let c_is : c ≡ length limits = sym so_far in
+    let limit_is : limit ≡ stated scene (length limits) = is ∙ ap (stated scene) c_is in
+    let chosen' : IsChosen scene all (length limits) (stated scene (length limits)) m = subst (P (length limits)) limit_is (subst (λ x. P x limit) c_is chosen) in
+    let below' : IsBelowUnless (stated scene (length limits)) m = subst (λ l. IsBelowUnless l m) limit_is below in
+    let rooms : room_chosen scene c limit m ≡ room_chosen scene (length limits) (stated scene (length limits)) m = ap (λ x. room_chosen scene x limit m) c_is ∙ ap (λ l. room_chosen scene (length limits) l m) limit_is in
+    rw (new_is, after_is, rooms) (IsUnderWay-push scene all limits m faultless h (omega (arith, so_far, link)) in_range below' chosen')
 
 pub loop-c-preserved : goal.loop-c-preserved
 loop-c-preserved c =
@@ -39,10 +41,11 @@ loop-c-preserved c =
     let chosen = c.in_ok-limit.ensures in
     let lt : c.loop-c.c < length c.args.scene.now.links = omega (arith, c.loop-c-test.true, ap length c.requires.stated, length-stated_limits c.args.scene.now) in
     let so_far = c.loop-c.invariant.so_far in
+    let is : get_or c.args.stated.now c.loop-c.c None ≡ stated c.args.scene.now c.loop-c.c = ap (λ ls. get_or ls c.loop-c.c None) c.requires.stated ∙ stated_limits-at c.args.scene.now c.loop-c.c lt in
     record {
       so_far = ap length new_is ∙ length-append c.loop-c.limits.items (c.in_ok-limit.limit ∷ []) ∙ ap (λ n. n + 1) so_far;
-      under_way = pushed c.args.scene.now c.loop-c.counting.items c.deref.result.now c.loop-c.limits.items _ c.loop-c.c c.in_ok-limit.limit so_far c.loop-c.invariant.under_way lt
-          c.deref.ensures.value new_is chosen.in_range chosen.chosen chosen.covered;
+      under_way = pushed c.args.scene.now c.loop-c.counting.items _ c.loop-c.limits.items _ c.loop-c.c c.in_ok-limit.limit (get_or c.args.stated.now c.loop-c.c None) c.requires.scene so_far c.loop-c.invariant.under_way lt
+          is new_is chosen.in_range chosen.below chosen.chosen chosen.counting;
     }
 
 pub returns-clause-limits : goal.returns-clause-limits
@@ -51,8 +54,8 @@ returns-clause-limits c = record {
   each = c.loop-c.invariant.under_way.each;
 }
 
-pub returns-clause-covered : goal.returns-clause-covered
-returns-clause-covered c =
+pub returns-clause-counting : goal.returns-clause-counting
+returns-clause-counting c =
     all_chosen c.args.scene.now c.loop-c.counting.items c.loop-c.limits.items
     (omega (arith, c.loop-c.invariant.so_far, c.loop-c.auto.c-end, c.loop-c-test.false, ap length c.requires.stated, length-stated_limits c.args.scene.now))
     c.loop-c.invariant.under_way

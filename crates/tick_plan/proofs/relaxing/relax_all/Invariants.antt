@@ -1,12 +1,8 @@
-use Rattle.std.proofs.Common.{◌≡◌}
 use Rattle.tick_plan.specs.Heights.{IsSearch, gap_of}
 use Rattle.tick_plan.proofs.relaxing.relax_all.Given as goal
 
 abbrev pub invariant-loop : goal.invariant-loop
-invariant-loop l = record {
-  search : IsSearch l.applications l.waits l.search;
-  starts : l.search.starts ≡ l.fn.search.starts;
-}
+invariant-loop l = IsSearch l.applications l.waits l.search
 
 abbrev pub decreases-loop : goal.decreases-loop
 decreases-loop l = gap_of l.search.heights.items

@@ -6,7 +6,6 @@ use Rattle.tick_plan.proofs.relaxing.relax_each.Given as goal
 abbrev pub invariant-loop-at : goal.invariant-loop-at
 invariant-loop-at l = record {
   search : IsSearch l.applications l.waits l.search;
-  starts : l.search.starts ≡ l.fn.search.starts;
   relaxed : l.raised ≡ false → (k : ℕ) (d : Wait) → k < l.at → IsRelaxed l.applications l.search.heights.items (slice_index_or l.waits k d);
   no_more : gap_of l.search.heights.items ≤ gap_of l.fn.search.heights.items;
   less : l.raised ≡ true → gap_of l.search.heights.items < gap_of l.fn.search.heights.items;

@@ -1,5 +1,5 @@
 use Rattle.std.proofs.Common.{◌≡◌, pos, map, take}
-use Rattle.tick_plan.proofs.potentials.signed.Given as goal
+use Rattle.tick_plan.proofs.heights.signed.Given as goal
 
 abbrev pub invariant-loop-height : goal.invariant-loop-height
 invariant-loop-height l = l.potentials.items ≡ map pos (take l.height-index l.heights)
