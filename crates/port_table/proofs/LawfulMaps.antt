@@ -4,6 +4,7 @@ use Rattle.std.specs.Prelude.{Option, Some, None, IfSome, option_map, nat_lt, na
 use Rattle.std.specs.List.{AllByRecursion, list_all, list_any, range_with_len, before_first, after_first}
 use Rattle.std.specs.Option.{option_or}
 use Rattle.std.proofs.lemmas.Bool.{eqb-true, leb-true, lt-ltb, ne_eqb}
+use Rattle.std.proofs.lemmas.List.{get_or-replicate}
 use Rattle.music_base.specs.Numbers.{all_differ}
 use Rattle.index_maps.specs.Indices.{Extent, are_indices}
 use Rattle.index_maps.specs.Maps.{globals, globals_of, no_indices, rank_count, split_at}
@@ -19,11 +20,12 @@ use Rattle.text_words.specs.Options.{each, first_some}
 use Rattle.text_words.specs.Parts.{is_byte, parts}
 use Rattle.text_words.proofs.Options.{IfSome-after, IfSome-bind, IfSome-each, IfSome-if, IfSome-map, IfSome-or, IfSome-when, count_up_to-is, length-each}
 use Rattle.scene_model.specs.Limits.{greatest_index}
-use Rattle.scene_model.specs.Ports.{has_indices, message_map, one_index}
+use Rattle.scene_model.specs.Ports.{HasMessageMap, has_indices}
 use Rattle.scene_model.specs.declared.port.Direction.{Direction}
 use Rattle.scene_model.specs.declared.port.Direction.TheVariants.{Output, Input}
+use Rattle.scene_model.specs.declared.port.PortKind.TheVariants.{Messages}
 use Rattle.music_base.specs.Times.{plus}
-use Rattle.port_table.specs.MapWords.{behind, comma, index_list, map_in, map_repeat, rank_map, rank_maps, rank_repeat, slash, span_in, split_map}
+use Rattle.port_table.specs.MapWords.{behind, comma, index_list, map_in, map_repeat, message_map, one_index, rank_map, rank_maps, rank_repeat, slash, span_in, split_map}
 
 -- ---- consecutive indices
 
@@ -134,6 +136,15 @@ message_map-is np Input some = record {
   ranks = omega (arith, length-replicated (np - 1) one_index);
   within = (omega arith, all_replicated IsRankWithin (np - 1) one_index (omega arith));
 }
+
+-- it maps what a message port has to
+pub message_map-maps : (np : ℕ) (direction : Direction) → HasMessageMap Messages direction (message_map np direction)
+message_map-maps np Output zero lt = refl
+message_map-maps np Input zero lt = refl
+message_map-maps np Output (suc r) lt =
+    ap globals (get_or-replicate (np - 1) r no_indices no_indices (omega (arith, lt, length-replicated (np - 1) no_indices)))
+message_map-maps np Input (suc r) lt =
+    ap globals (get_or-replicate (np - 1) r one_index no_indices (omega (arith, lt, length-replicated (np - 1) one_index)))
 
 -- ---- where no list repeats an index
 

@@ -1,10 +1,11 @@
 -- The ports that a text declares are ports of a scene without a fault.
 use Rattle.std.proofs.Common.{◌≡◌, ℕ, ◌+◌, ◌≤◌, Bool, true, false, List, [], ◌∷◌, ◌++◌, length, refl, ap, arith, length-append}
-use Rattle.std.specs.Prelude.{Option, Some, None, IfSome, Ok, bytes_eq, nat_le, ◌||◌, if◌then◌else◌}
+use Rattle.std.specs.Prelude.{Option, Some, None, IfSome, Ok, bytes_eq, nat_le, if◌then◌else◌}
 use Rattle.std.specs.Int.{IsInRange}
 use Rattle.std.specs.List.{list_any}
 use Rattle.std.proofs.lemmas.Bool.{leb-false, or_parts}
 use Rattle.music_base.specs.Names.{is_name}
+use Rattle.music_base.specs.Times.{greatest_time}
 use Rattle.music_base.proofs.Lists.{All-push, all_differ-push}
 use Rattle.index_maps.specs.declared.map.PortMap.{PortMap}
 use Rattle.text_words.specs.InTurn.{unless}
@@ -12,7 +13,7 @@ use Rattle.text_words.specs.Words.{declarations}
 use Rattle.text_words.proofs.Options.{IfSome-after, IfSome-bind, IfSome-of, IfSome-when}
 use Rattle.text_words.proofs.Turns.{in_turn-keeps}
 use Rattle.scene_model.specs.Limits.{most_buffered, most_ports}
-use Rattle.scene_model.specs.Ports.{ArePorts, HasMessageMap, IsOptionTime, IsPort, names_differ, output_twice, takes_delay, takes_latency}
+use Rattle.scene_model.specs.Ports.{ArePorts, HasMessageMap, IsPort, names_differ, output_twice}
 use Rattle.scene_model.specs.Turns.{same_name}
 use Rattle.scene_model.specs.declared.port.Direction.{Direction}
 use Rattle.scene_model.specs.declared.port.PortKind.{PortKind}
@@ -24,18 +25,18 @@ use Rattle.port_table.specs.Ports.{beside, direction_in, fault_beside, is_beyond
 use Rattle.port_table.specs.declared.fault.PortFault.{PortFault}
 use Rattle.port_table.specs.declared.fault.PortFault.TheVariants.{PortText}
 use Rattle.port_table.specs.declared.options.Options.{Options}
-use Rattle.port_table.proofs.LawfulMaps.{IsSpelled, has_indices-is, map_in-is, message_map-is}
-use Rattle.port_table.proofs.LawfulOptions.{AreOptions, none_are, options_in-are, stated_hold, stated_time}
+use Rattle.port_table.proofs.LawfulMaps.{IsSpelled, has_indices-is, map_in-is, message_map-is, message_map-maps}
+use Rattle.port_table.proofs.LawfulOptions.{AreOptions, none_are, options_in-are, stated_time}
 
 -- ---- the form of one declaration
 
 -- the map of a declaration, with the words after it
 record HasMap (np : ℕ) (direction : Direction) (kind : PortKind) (part : PortMap × List (List ℕ)) : Type 0 where
   spelled : IsSpelled np part.0
-  message : HasMessageMap kind np direction part.0
+  message : HasMessageMap kind direction part.0
 
 map_part-is : (np : ℕ) (direction : Direction) (kind : PortKind) (words : List (List ℕ)) → 1 ≤ np → IfSome (map_part np direction kind words) (HasMap np direction kind)
-map_part-is np direction Messages words some = record { spelled = message_map-is np direction some; message = refl }
+map_part-is np direction Messages words some = record { spelled = message_map-is np direction some; message = message_map-maps np direction }
 map_part-is np direction Events [] some = tt
 map_part-is np direction Values [] some = tt
 map_part-is np direction Events (word ∷ words) some = IfSome-bind (IsSpelled np) (HasMap np direction Events) _ (map_in np word) (map_in-is np word) (λ map is. record { spelled = is; message = tt })
@@ -45,21 +46,19 @@ map_part-is np direction Values (word ∷ words) some = IfSome-bind (IsSpelled n
 record IsDeclared (np : ℕ) (port : PortDecl) : Type 0 where
   name : is_name port.name ≡ true
   spelled : IsSpelled np port.map
-  message : HasMessageMap port.kind np port.direction port.map
-  latency : IsOptionTime (takes_latency port.direction port.kind) port.latency
-  delay : IsOptionTime (takes_delay port.direction port.kind) port.delay
-  interpolated : (takes_delay port.direction port.kind || port.interpolate) ≡ true
+  message : HasMessageMap port.kind port.direction port.map
+  latency : port.latency ≤ greatest_time
+  delay : port.delay ≤ greatest_time
   buffered : IfSome port.buffered (IsInRange 1 most_buffered)
 
 port_with-is : (np : ℕ) (name : List ℕ) (direction : Direction) (kind : PortKind) (part : PortMap × List (List ℕ)) (options : Options)
-    → is_name name ≡ true → HasMap np direction kind part → AreOptions direction kind options → IsDeclared np (port_with name direction kind part.0 options)
+    → is_name name ≡ true → HasMap np direction kind part → AreOptions options → IsDeclared np (port_with name direction kind part.0 options)
 port_with-is np name direction kind part options named mapped are = record {
   name = named;
   spelled = mapped.spelled;
   message = mapped.message;
-  latency = stated_time (takes_latency direction kind) options.latency are.latency;
-  delay = stated_time (takes_delay direction kind) options.delay are.delay;
-  interpolated = stated_hold (takes_delay direction kind) options.interpolate are.interpolate;
+  latency = stated_time options.latency are.latency;
+  delay = stated_time options.delay are.delay;
   buffered = are.buffered;
 }
 
@@ -73,7 +72,7 @@ port_in-is np (direction ∷ kind ∷ name ∷ words) some =
     IfSome-after (IsDeclared np) _ (kind_in kind) (λ kind.
     IfSome-bind (λ name. is_name name ≡ true) (IsDeclared np) _ (name_in name) (IfSome-when (λ name. is_name name ≡ true) name (is_name name) (λ is. is)) (λ name named.
     IfSome-bind (HasMap np direction kind) (IsDeclared np) _ (map_part np direction kind words) (map_part-is np direction kind words some) (λ part mapped.
-    IfSome-bind (AreOptions direction kind) (IsDeclared np) _ (options_in direction kind no_options part.1) (options_in-are direction kind no_options part.1 (none_are direction kind)) (λ options are.
+    IfSome-bind AreOptions (IsDeclared np) _ (options_in direction kind no_options part.1) (options_in-are direction kind no_options part.1 none_are) (λ options are.
     port_with-is np name direction kind part options named mapped are)))))
 
 -- ---- beside other ports
@@ -129,7 +128,6 @@ one_more np before port so_far is new =
       message = is.message;
       latency = is.latency;
       delay = is.delay;
-      interpolated = is.interpolated;
       buffered = is.buffered;
     } in
     record {

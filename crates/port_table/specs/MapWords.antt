@@ -1,5 +1,5 @@
 -- A map, which is one word.
-use Rattle.std.specs.Prelude.{ℕ, ◌+◌, ◌==◌, nat_le, if◌then◌else◌, List, length, drop, take, codes, bytes_eq, Option, Some, None, option_map}
+use Rattle.std.specs.Prelude.{ℕ, ◌+◌, ◌-◌, ◌==◌, nat_le, if◌then◌else◌, List, ◌∷◌, length, replicate, drop, take, codes, bytes_eq, Option, Some, None, option_map}
 use Rattle.std.specs.List.{list_any, before_first, after_first}
 use Rattle.std.specs.Option.{option_or}
 use Rattle.music_base.specs.Times.{plus}
@@ -7,6 +7,7 @@ use Rattle.text_words.specs.Options.{◌>>=◌, ◌when◌, each, first_some}
 use Rattle.text_words.specs.Parts.{is_byte, parts}
 use Rattle.text_words.specs.Counts.{count_up_to}
 use Rattle.index_maps.specs.Indices.{Extent}
+use Rattle.index_maps.specs.Maps.{no_indices}
 use Rattle.index_maps.specs.Repeats.{first_repeat}
 use Rattle.index_maps.specs.declared.span.TheConstants.{INDEX_LIMIT}
 use Rattle.index_maps.specs.declared.map.IndexMap.{IndexMap}
@@ -14,6 +15,8 @@ use Rattle.index_maps.specs.declared.map.IndexMap.TheVariants.{Linear, Permutati
 use Rattle.index_maps.specs.declared.map.PortMap.{PortMap}
 use Rattle.index_maps.specs.declared.map.PortMap.TheVariants.{Each, Split}
 use Rattle.scene_model.specs.Limits.{greatest_index}
+use Rattle.scene_model.specs.declared.port.Direction.{Direction}
+use Rattle.scene_model.specs.declared.port.Direction.TheVariants.{Output, Input}
 
 abbrev pub comma : ℕ
 comma = 44
@@ -58,6 +61,17 @@ split_map np word = do
 -- the map of a port of np ranks
 unfoldable pub map_in : ℕ → List ℕ → Option PortMap
 map_in np word = option_or (split_map np word) (option_map (λ maps. Each maps) (rank_maps np word))
+
+-- ---- the map of a message port, which no word states
+
+-- index 0 alone
+abbrev pub one_index : IndexMap
+one_index = Linear (record { base = 0; size = 1 })
+
+-- an output maps index 0 at rank 0 and nothing at its other ranks, an input index 0 at each rank
+abbrev pub message_map : ℕ → Direction → PortMap
+message_map np Output = Each (one_index ∷ replicate (np - 1) no_indices)
+message_map np Input = Each (one_index ∷ replicate (np - 1) one_index)
 
 -- ---- indices that come twice in a list
 

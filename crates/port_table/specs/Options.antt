@@ -1,14 +1,28 @@
 -- The options of a declaration.
-use Rattle.std.specs.Prelude.{ℕ, Bool, ◌&&◌, ◌||◌, nat_le, if◌then◌else◌, List, [], ◌∷◌, codes, bytes_eq, Option, Some, None, is_none}
+use Rattle.std.specs.Prelude.{ℕ, Bool, true, false, ◌&&◌, ◌||◌, nat_le, if◌then◌else◌, List, [], ◌∷◌, codes, bytes_eq, Option, Some, None, is_none}
 use Rattle.std.specs.Result.{result_ok}
 use Rattle.music_base.specs.Times.{time_value}
 use Rattle.text_words.specs.Options.{◌>>=◌, ◌when◌}
 use Rattle.text_words.specs.Counts.{count_up_to}
 use Rattle.scene_model.specs.Limits.{most_buffered}
-use Rattle.scene_model.specs.Ports.{takes_delay, takes_latency}
 use Rattle.scene_model.specs.declared.port.Direction.{Direction}
+use Rattle.scene_model.specs.declared.port.Direction.TheVariants.{Input}
 use Rattle.scene_model.specs.declared.port.PortKind.{PortKind}
+use Rattle.scene_model.specs.declared.port.PortKind.TheVariants.{Events, Values, Messages}
 use Rattle.port_table.specs.declared.options.Options.{Options}
+
+-- ---- which ports take an option
+
+-- event and message inputs have a latency
+abbrev pub takes_latency : Direction → PortKind → Bool
+takes_latency Input Events = true
+takes_latency Input Messages = true
+takes_latency _ _ = false
+
+-- continuous inputs have a delay, and may hold values
+abbrev pub takes_delay : Direction → PortKind → Bool
+takes_delay Input Values = true
+takes_delay _ _ = false
 
 -- no option stands yet
 abbrev pub no_options : Options

@@ -7,7 +7,7 @@ use Rattle.text_words.specs.Words.{declarations}
 use Rattle.text_words.specs.InTurn.{in_turn, unless}
 use Rattle.index_maps.specs.declared.map.PortMap.{PortMap}
 use Rattle.scene_model.specs.Limits.{most_ports}
-use Rattle.scene_model.specs.Ports.{message_map, output_twice}
+use Rattle.scene_model.specs.Ports.{output_twice}
 use Rattle.scene_model.specs.declared.port.Direction.{Direction}
 use Rattle.scene_model.specs.declared.port.Direction.TheVariants.{Output, Input}
 use Rattle.scene_model.specs.declared.port.PortKind.{PortKind}
@@ -16,7 +16,7 @@ use Rattle.scene_model.specs.declared.port.PortDecl.{PortDecl}
 use Rattle.port_table.specs.declared.fault.PortFault.{PortFault}
 use Rattle.port_table.specs.declared.fault.PortFault.TheVariants.{PortText, MapRepeated, OutputTwice, Memory}
 use Rattle.port_table.specs.declared.options.Options.{Options}
-use Rattle.port_table.specs.MapWords.{map_in, map_repeat}
+use Rattle.port_table.specs.MapWords.{map_in, map_repeat, message_map}
 use Rattle.port_table.specs.Options.{options_in, no_options}
 
 -- ---- the form of one declaration

@@ -8,8 +8,8 @@ use Rattle.scene_model.specs.declared.port.PortDecl.{PortDecl}
 use Rattle.port_table.specs.declared.fault.PortFault.{PortFault}
 use Rattle.port_table.specs.declared.fault.PortFault.TheVariants.{PortText, MapRepeated, OutputTwice, Memory}
 use Rattle.port_table.specs.declared.port_text.PortParts.{PortParts}
-use Rattle.scene_model.specs.Ports.{message_map, output_twice}
-use Rattle.port_table.specs.MapWords.{map_in, map_repeat}
+use Rattle.scene_model.specs.Ports.{output_twice}
+use Rattle.port_table.specs.MapWords.{map_in, map_repeat, message_map}
 use Rattle.port_table.specs.Ports.{map_fault, port_with}
 
 -- the map of a map word, or that of a message port

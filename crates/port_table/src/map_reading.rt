@@ -7,8 +7,7 @@ ghost use Rattle.index_maps.specs.Maps.{no_indices};
 ghost use Rattle.index_maps.specs.Repeats.{IsRepeatOf};
 ghost use Rattle.index_maps.specs.declared.span.TheConstants.{INDEX_LIMIT};
 ghost use Rattle.index_maps.specs.declared.map.IndexMap.TheVariants.{Linear};
-ghost use Rattle.scene_model.specs.Ports.{message_map};
-ghost use Rattle.port_table.specs.MapWords.{index_list, map_in, first_repeat_in, map_repeat, map_repeat_in, rank_map, rank_repeat, rank_repeat_in, slash};
+ghost use Rattle.port_table.specs.MapWords.{index_list, map_in, first_repeat_in, map_repeat, map_repeat_in, message_map, rank_map, rank_repeat, rank_repeat_in, slash};
 
 use crate::map_words::{GREATEST_INDEX, has_byte, span_in, split_span};
 use index_maps::{IndexMap, MapFault, PortMap, Span, permutation};

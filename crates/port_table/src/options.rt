@@ -2,8 +2,7 @@
 
 ghost use Rattle.std.specs.Prelude.{◌≡◌, ◌<◌, ◌≤◌, ◌∷◌, length, IfSome, MatchOption, None, Some};
 ghost use Rattle.text_words.specs.Words.{words};
-ghost use Rattle.scene_model.specs.Ports.{takes_latency, takes_delay};
-ghost use Rattle.port_table.specs.Options.{time_in, latency_in, delay_in, buffered_in, interpolate_in, flag_in, valued_in, is_flag, options_in, no_options};
+ghost use Rattle.port_table.specs.Options.{time_in, latency_in, delay_in, buffered_in, interpolate_in, flag_in, valued_in, is_flag, options_in, no_options, takes_latency, takes_delay};
 
 use music_base::read_time;
 use scene_model::{Direction, PortKind};

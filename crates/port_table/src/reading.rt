@@ -4,7 +4,7 @@ ghost use Rattle.music_base.specs.Names.{is_name};
 ghost use Rattle.index_maps.specs.Repeats.{IsRepeatOf};
 ghost use Rattle.text_words.specs.Words.{words};
 ghost use Rattle.scene_model.specs.Limits.{most_ports, most_ranks};
-ghost use Rattle.scene_model.specs.Ports.{message_map, names_differ, output_twice};
+ghost use Rattle.scene_model.specs.Ports.{names_differ, output_twice};
 ghost use Rattle.port_table.specs.MapWords.{map_in, map_repeat};
 ghost use Rattle.port_table.specs.Ports.{IsFaultOf, fault_beside, is_beyond, port_beside, port_in, port_with, ports_of};
 ghost use Rattle.port_table.specs.Seen.{IsThatFault, fault_of_map, seen, seen_map};

@@ -11,7 +11,7 @@ use Rattle.scene_model.specs.Clocks.{allowance, allowance_by, delay, latency, st
 use Rattle.scene_model.specs.Faults.{IsApp, IsFaultless}
 use Rattle.scene_model.specs.Limits.{longest_tick, most_buffered, most_steps}
 use Rattle.scene_model.specs.Links.{has_ends}
-use Rattle.scene_model.specs.Ports.{IsOptionTime, IsPort}
+use Rattle.scene_model.specs.Ports.{IsPort}
 use Rattle.scene_model.specs.Scenes.{app_at, input_of, link_at, no_app, no_link, no_port, output_of, port_at, receiver, sender}
 use Rattle.scene_model.specs.declared.port.PortKind.{PortKind}
 use Rattle.scene_model.specs.declared.port.PortKind.TheVariants.{Events, Values, Messages}
@@ -60,10 +60,6 @@ port_is : (scene : Scene) (a p : ℕ) → IsFaultless scene → a < length scene
 port_is scene a p faultless lt within =
     each_at (IsPort (app_at scene a).np) (app_at scene a).ports p no_port within (app_is scene a faultless lt).ports.each
 
-option_time : (taken : Bool) (time : ℕ) → IsOptionTime taken time → time ≤ greatest_time
-option_time true time is = is
-option_time false time is = omega arith
-
 -- ---- the numbers of a connection
 
 -- an application of this tick runs so many steps
@@ -92,8 +88,8 @@ has_options_at scene c faultless lt =
     let output = port_is scene (sender scene c) (link_at scene c).from_port faultless ends.sender_stands ends.output_stands in
     let input = port_is scene (receiver scene c) (link_at scene c).to_port faultless ends.receiver_stands ends.input_stands in
     record {
-      latency_to = option_time _ _ input.latency;
-      delay_to = option_time _ _ input.delay;
+      latency_to = input.latency;
+      delay_to = input.delay;
       output_buffered = output.buffered;
       input_buffered = input.buffered;
     }

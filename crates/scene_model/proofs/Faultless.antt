@@ -7,7 +7,6 @@ use Rattle.std.proofs.lemmas.Bool.{and_parts, cases_Bool, cases_eq, cases_lt, eq
 use Rattle.std.proofs.lemmas.List.{get_or_past}
 use Rattle.std.proofs.lemmas.List.Sums.{AllPass-from_list_all}
 use Rattle.music_base.specs.Clocks.{steps_until}
-use Rattle.music_base.specs.Times.{greatest_time}
 use Rattle.music_base.proofs.Lists.{All-at, All-of, all_differ-at, filter-agree_within, filter-none}
 use Rattle.index_maps.specs.Intervals.{first_shared, is_shared, ranks_mapping}
 use Rattle.index_maps.specs.Maps.{indices, maps_index}
@@ -20,7 +19,7 @@ use Rattle.scene_model.specs.Faults.{IsApp, IsFaultless}
 use Rattle.scene_model.specs.Limits.{longest_tick, most_steps}
 use Rattle.scene_model.specs.Links.{directions_fit, has_end, has_ends}
 use Rattle.scene_model.specs.Links as links
-use Rattle.scene_model.specs.Ports.{IsOptionTime, IsPort, output_twice, same_kind}
+use Rattle.scene_model.specs.Ports.{IsPort, output_twice, same_kind}
 use Rattle.scene_model.specs.Scenes.{app_at, input_of, link_at, links_to, no_app, no_link, no_port, output_of, port_at, receiver, sender}
 use Rattle.scene_model.specs.declared.port.Direction.{Direction}
 use Rattle.scene_model.specs.declared.port.Direction.TheVariants.{Output, Input}
@@ -48,11 +47,6 @@ of_one_kind Values Events is = absurd cc
 of_one_kind Values Messages is = absurd cc
 of_one_kind Messages Events is = absurd cc
 of_one_kind Messages Values is = absurd cc
-
--- the time of an option is never above the greatest
-option_time : (taken : Bool) (time : ℕ) → IsOptionTime taken time → time ≤ greatest_time
-option_time true time is = is
-option_time false time is = omega (arith, is)
 
 -- ---- what lists tell
 
@@ -138,8 +132,8 @@ module _ (scene : Scene) (faultless : IsFaultless scene) where
         from_output = directions.0;
         to_input = directions.1;
         of_one_kind = of_one_kind (output_of scene c).kind (input_of scene c).kind (passes (links.is_of_one_kind scene.apps) c faultless.links.of_one_kind lt);
-        latency = option_time _ _ input.latency;
-        delay = option_time _ _ input.delay;
+        latency = input.latency;
+        delay = input.delay;
       }
 
   -- ---- two connections

@@ -1,14 +1,17 @@
 -- Worked scenes have no fault, part by part.
-use Rattle.std.proofs.Common.{refl, arith}
+use Rattle.std.proofs.Common.{zero, suc, refl, arith}
 use Rattle.music_base.specs.Clocks.{steps_until}
 use Rattle.index_maps.specs.Intervals.{ranks_mapping, first_shared}
 use Rattle.scene_model.specs.Faults.{IsApp, IsFaultless}
 use Rattle.scene_model.specs.Links.{covers, has_ends, input_of, maps_below, output_of}
+use Rattle.scene_model.specs.Ports.{HasMessageMap}
 use Rattle.scene_model.specs.Rules.{has_port, is_mapped, is_rate, runs_for}
 use Rattle.scene_model.specs.Scenes.{app_at}
 use Rattle.scene_model.specs.Values.{indices_mapped, values_in_step}
 use Rattle.scene_model.specs.WorkedRealistic.{clk, left, realistic, right, watch, wave}
-use Rattle.scene_model.specs.WorkedScenes.{event_each_tick, ms, ramp_held, shared_index}
+use Rattle.scene_model.specs.WorkedScenes.{event_each_tick, linear, ms, ramp_held, shared_index}
+use Rattle.scene_model.specs.declared.port.Direction.TheVariants.{Output, Input}
+use Rattle.scene_model.specs.declared.port.PortKind.TheVariants.{Messages}
 
 -- ---- two applications
 
@@ -19,7 +22,7 @@ event_each_tick_sender = record {
   np = (omega arith, omega arith);
   tick = (omega arith, omega arith);
   few_steps = omega arith;
-  ports = record { few = omega arith; each = (record { name = refl; ranks = refl; indices = refl; once = refl; message = tt; latency = refl; delay = refl; interpolated = refl; buffered = tt }, tt); differ = refl };
+  ports = record { few = omega arith; each = (record { name = refl; ranks = refl; indices = refl; once = refl; message = tt; latency = omega arith; delay = omega arith; buffered = tt }, tt); differ = refl };
   rules = record { few = omega arith; spellable = refl; stand = refl };
   few_values = omega arith;
 }
@@ -31,7 +34,7 @@ event_each_tick_receiver = record {
   np = (omega arith, omega arith);
   tick = (omega arith, omega arith);
   few_steps = omega arith;
-  ports = record { few = omega arith; each = (record { name = refl; ranks = refl; indices = refl; once = refl; message = tt; latency = omega arith; delay = refl; interpolated = refl; buffered = tt }, tt); differ = refl };
+  ports = record { few = omega arith; each = (record { name = refl; ranks = refl; indices = refl; once = refl; message = tt; latency = omega arith; delay = omega arith; buffered = tt }, tt); differ = refl };
   rules = record { few = omega arith; spellable = refl; stand = refl };
   few_values = omega arith;
 }
@@ -53,7 +56,7 @@ shared_index_sender = record {
   np = (omega arith, omega arith);
   tick = (omega arith, omega arith);
   few_steps = omega arith;
-  ports = record { few = omega arith; each = (record { name = refl; ranks = refl; indices = refl; once = refl; message = tt; latency = refl; delay = refl; interpolated = refl; buffered = tt }, tt); differ = refl };
+  ports = record { few = omega arith; each = (record { name = refl; ranks = refl; indices = refl; once = refl; message = tt; latency = omega arith; delay = omega arith; buffered = tt }, tt); differ = refl };
   rules = record { few = omega arith; spellable = refl; stand = refl };
   few_values = omega arith;
 }
@@ -65,7 +68,7 @@ shared_index_receiver = record {
   np = (omega arith, omega arith);
   tick = (omega arith, omega arith);
   few_steps = omega arith;
-  ports = record { few = omega arith; each = (record { name = refl; ranks = refl; indices = refl; once = refl; message = tt; latency = omega arith; delay = refl; interpolated = refl; buffered = tt }, tt); differ = refl };
+  ports = record { few = omega arith; each = (record { name = refl; ranks = refl; indices = refl; once = refl; message = tt; latency = omega arith; delay = omega arith; buffered = tt }, tt); differ = refl };
   rules = record { few = omega arith; spellable = refl; stand = refl };
   few_values = omega arith;
 }
@@ -87,7 +90,7 @@ ramp_held_sender = record {
   np = (omega arith, omega arith);
   tick = (omega arith, omega arith);
   few_steps = omega arith;
-  ports = record { few = omega arith; each = (record { name = refl; ranks = refl; indices = refl; once = refl; message = tt; latency = refl; delay = refl; interpolated = refl; buffered = tt }, tt); differ = refl };
+  ports = record { few = omega arith; each = (record { name = refl; ranks = refl; indices = refl; once = refl; message = tt; latency = omega arith; delay = omega arith; buffered = tt }, tt); differ = refl };
   rules = record { few = omega arith; spellable = refl; stand = refl };
   few_values = omega arith;
 }
@@ -99,7 +102,7 @@ ramp_held_receiver = record {
   np = (omega arith, omega arith);
   tick = (omega arith, omega arith);
   few_steps = omega arith;
-  ports = record { few = omega arith; each = (record { name = refl; ranks = refl; indices = refl; once = refl; message = tt; latency = refl; delay = omega arith; interpolated = refl; buffered = tt }, tt); differ = refl };
+  ports = record { few = omega arith; each = (record { name = refl; ranks = refl; indices = refl; once = refl; message = tt; latency = omega arith; delay = omega arith; buffered = tt }, tt); differ = refl };
   rules = record { few = omega arith; spellable = refl; stand = refl };
   few_values = omega arith;
 }
@@ -116,6 +119,15 @@ ramp_held_is = record {
 
 -- ---- five applications
 
+-- the message ports map index 0 at their only rank
+message_out : HasMessageMap Messages Output (linear 0 1)
+message_out zero lt = refl
+message_out (suc r) lt = absurd (omega arith)
+
+message_in : HasMessageMap Messages Input (linear 0 1)
+message_in zero lt = refl
+message_in (suc r) lt = absurd (omega arith)
+
 clk_is : IsApp (ms 4) clk
 unfolding ranks_mapping first_shared steps_until has_port is_mapped is_rate runs_for indices_mapped values_in_step
 clk_is = record {
@@ -123,7 +135,7 @@ clk_is = record {
   np = (omega arith, omega arith);
   tick = (omega arith, omega arith);
   few_steps = omega arith;
-  ports = record { few = omega arith; each = (record { name = refl; ranks = refl; indices = refl; once = refl; message = tt; latency = refl; delay = refl; interpolated = refl; buffered = tt }, (record { name = refl; ranks = refl; indices = refl; once = refl; message = refl; latency = refl; delay = refl; interpolated = refl; buffered = tt }, tt)); differ = refl };
+  ports = record { few = omega arith; each = (record { name = refl; ranks = refl; indices = refl; once = refl; message = tt; latency = omega arith; delay = omega arith; buffered = tt }, (record { name = refl; ranks = refl; indices = refl; once = refl; message = message_out; latency = omega arith; delay = omega arith; buffered = tt }, tt)); differ = refl };
   rules = record { few = omega arith; spellable = refl; stand = refl };
   few_values = omega arith;
 }
@@ -135,7 +147,7 @@ left_is = record {
   np = (omega arith, omega arith);
   tick = (omega arith, omega arith);
   few_steps = omega arith;
-  ports = record { few = omega arith; each = (record { name = refl; ranks = refl; indices = refl; once = refl; message = tt; latency = omega arith; delay = refl; interpolated = refl; buffered = tt }, (record { name = refl; ranks = refl; indices = refl; once = refl; message = tt; latency = refl; delay = refl; interpolated = refl; buffered = tt }, tt)); differ = refl };
+  ports = record { few = omega arith; each = (record { name = refl; ranks = refl; indices = refl; once = refl; message = tt; latency = omega arith; delay = omega arith; buffered = tt }, (record { name = refl; ranks = refl; indices = refl; once = refl; message = tt; latency = omega arith; delay = omega arith; buffered = tt }, tt)); differ = refl };
   rules = record { few = omega arith; spellable = refl; stand = refl };
   few_values = omega arith;
 }
@@ -147,7 +159,7 @@ right_is = record {
   np = (omega arith, omega arith);
   tick = (omega arith, omega arith);
   few_steps = omega arith;
-  ports = record { few = omega arith; each = (record { name = refl; ranks = refl; indices = refl; once = refl; message = tt; latency = omega arith; delay = refl; interpolated = refl; buffered = tt }, (record { name = refl; ranks = refl; indices = refl; once = refl; message = tt; latency = refl; delay = refl; interpolated = refl; buffered = tt }, tt)); differ = refl };
+  ports = record { few = omega arith; each = (record { name = refl; ranks = refl; indices = refl; once = refl; message = tt; latency = omega arith; delay = omega arith; buffered = tt }, (record { name = refl; ranks = refl; indices = refl; once = refl; message = tt; latency = omega arith; delay = omega arith; buffered = tt }, tt)); differ = refl };
   rules = record { few = omega arith; spellable = refl; stand = refl };
   few_values = omega arith;
 }
@@ -159,7 +171,7 @@ wave_is = record {
   np = (omega arith, omega arith);
   tick = (omega arith, omega arith);
   few_steps = omega arith;
-  ports = record { few = omega arith; each = (record { name = refl; ranks = refl; indices = refl; once = refl; message = tt; latency = refl; delay = refl; interpolated = refl; buffered = tt }, (record { name = refl; ranks = refl; indices = refl; once = refl; message = refl; latency = omega arith; delay = refl; interpolated = refl; buffered = tt }, tt)); differ = refl };
+  ports = record { few = omega arith; each = (record { name = refl; ranks = refl; indices = refl; once = refl; message = tt; latency = omega arith; delay = omega arith; buffered = tt }, (record { name = refl; ranks = refl; indices = refl; once = refl; message = message_in; latency = omega arith; delay = omega arith; buffered = tt }, tt)); differ = refl };
   rules = record { few = omega arith; spellable = refl; stand = refl };
   few_values = omega arith;
 }
@@ -171,7 +183,7 @@ watch_is = record {
   np = (omega arith, omega arith);
   tick = (omega arith, omega arith);
   few_steps = omega arith;
-  ports = record { few = omega arith; each = (record { name = refl; ranks = refl; indices = refl; once = refl; message = tt; latency = refl; delay = omega arith; interpolated = refl; buffered = tt }, (record { name = refl; ranks = refl; indices = refl; once = refl; message = tt; latency = omega arith; delay = refl; interpolated = refl; buffered = tt }, (record { name = refl; ranks = refl; indices = refl; once = refl; message = tt; latency = refl; delay = refl; interpolated = refl; buffered = tt }, tt))); differ = refl };
+  ports = record { few = omega arith; each = (record { name = refl; ranks = refl; indices = refl; once = refl; message = tt; latency = omega arith; delay = omega arith; buffered = tt }, (record { name = refl; ranks = refl; indices = refl; once = refl; message = tt; latency = omega arith; delay = omega arith; buffered = tt }, (record { name = refl; ranks = refl; indices = refl; once = refl; message = tt; latency = omega arith; delay = omega arith; buffered = tt }, tt))); differ = refl };
   rules = record { few = omega arith; spellable = refl; stand = refl };
   few_values = omega arith;
 }

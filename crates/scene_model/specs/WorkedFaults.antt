@@ -6,7 +6,7 @@ use Rattle.music_base.specs.Times.{greatest_time}
 use Rattle.scene_model.specs.Limits.{most_buffered}
 use Rattle.scene_model.specs.WorkedScenes.{ms, connected, emit_each_ms, events_in, gen, input, linear, link, output, sink}
 use Rattle.scene_model.specs.declared.port.PortDecl.{PortDecl}
-use Rattle.scene_model.specs.declared.port.PortKind.TheVariants.{Events, Values}
+use Rattle.scene_model.specs.declared.port.PortKind.TheVariants.{Events, Values, Messages}
 use Rattle.scene_model.specs.declared.rule.Rule.{Rule}
 use Rattle.scene_model.specs.declared.rule.Rule.TheVariants.{EmitAt, EmitEvery}
 use Rattle.scene_model.specs.declared.scene.Scene.{Scene}
@@ -55,11 +55,9 @@ overlapping = record {
   links = [];
 }
 
--- ---- options
-
--- an event input with a delay
-abbrev pub delayed_events : Scene
-delayed_events = to_port (record (events_in 0) { delay = ms 1 })
+-- a message input that maps index 1
+abbrev pub other_message_map : Scene
+other_message_map = record { stop = ms 3; apps = sink (ms 1) (input (codes "in") Messages (linear 1 1)) ∷ []; links = [] }
 
 -- ---- rules
 

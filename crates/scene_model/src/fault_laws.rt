@@ -10,7 +10,6 @@ ghost use Rattle.scene_model.specs.Links.{same_ends};
 ghost use Rattle.scene_model.specs.Ports.{IsPort};
 ghost use Rattle.scene_model.specs.Scenes.{app_at, link_at, links_to, port_at};
 ghost use Rattle.scene_model.specs.WorkedFaults.{
-  delayed_events,
   joined_twice,
   late_stop,
   much_buffered,
@@ -18,6 +17,7 @@ ghost use Rattle.scene_model.specs.WorkedFaults.{
   no_tick,
   one_name,
   other_kind,
+  other_message_map,
   overlapping,
   unmapped,
 };
@@ -49,14 +49,14 @@ pub fn worked_scenes_have_no_fault()
     ensures realistic { IsFaultless realistic }
 {}
 
-/// A scene with one fault is not faultless: of its numbers, its names, its maps, its options, its rules, or its links.
+/// A scene with one fault is not faultless: of its numbers, its names, its maps, its rules, or its links.
 pub fn worked_faults_show()
     ensures late_stop { IsFaultless late_stop → ⊥ }
     ensures no_tick { IsFaultless no_tick → ⊥ }
     ensures much_buffered { IsFaultless much_buffered → ⊥ }
     ensures one_name { IsFaultless one_name → ⊥ }
     ensures overlapping { IsFaultless overlapping → ⊥ }
-    ensures delayed_events { IsFaultless delayed_events → ⊥ }
+    ensures other_message_map { IsFaultless other_message_map → ⊥ }
     ensures unmapped { IsFaultless unmapped → ⊥ }
     ensures no_period { IsFaultless no_period → ⊥ }
     ensures other_kind { IsFaultless other_kind → ⊥ }
