@@ -9,6 +9,7 @@ ghost use Rattle.scene_model.specs.Limits.{longest_tick};
 ghost use Rattle.scene_model.specs.Links.{same_ends};
 ghost use Rattle.scene_model.specs.Ports.{IsPort};
 ghost use Rattle.scene_model.specs.Scenes.{app_at, link_at, links_to, port_at};
+ghost use Rattle.scene_model.specs.WellFormed.{IsWellFormed};
 ghost use Rattle.scene_model.specs.WorkedFaults.{
   joined_twice,
   late_stop,
@@ -29,7 +30,7 @@ ghost use Rattle.scene_model.specs.declared.scene.Scene.{Scene};
 
 /// What holds of a scene without a fault, place by place: each application and each port is lawful, time goes on in each,
 /// no two ranks of an output map one index, each connection leads from an output to an input of its kind, no two join the
-/// same ports, and at most one leads to a continuous input.
+/// same ports, and at most one leads to a continuous input. So the laws on waits and orders hold of it.
 pub fn faultless_by_place()
     ensures applications { (scene : Scene) (a : ℕ) → IsFaultless scene → a < length scene.apps → IsApp scene.stop (app_at scene a) }
     ensures ports { (scene : Scene) (a p : ℕ) → IsFaultless scene → a < length scene.apps → p < length (app_at scene a).ports → IsPort (app_at scene a).np (port_at scene a p) }
@@ -38,6 +39,7 @@ pub fn faultless_by_place()
     ensures connections { (scene : Scene) (c : ℕ) → IsFaultless scene → c < length scene.links → IsConnection scene c }
     ensures joined_once { (scene : Scene) (c d : ℕ) → IsFaultless scene → c < d → d < length scene.links → same_ends (link_at scene c) (link_at scene d) ≡ false }
     ensures fed_once { (scene : Scene) (b p : ℕ) → IsFaultless scene → (port_at scene b p).kind ≡ Values → length (links_to scene b p) ≤ 1 }
+    ensures well_formed { (scene : Scene) → IsFaultless scene → IsWellFormed scene }
 {}
 
 /// Scenes whose logs can be followed by hand have no fault: events, an index that two ranks share, values, and a scene

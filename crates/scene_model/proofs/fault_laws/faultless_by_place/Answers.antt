@@ -1,4 +1,5 @@
 use Rattle.scene_model.proofs.Faultless.{app_is, connection_is, joined_once, links_to-few, output_maps_once, port_is, tick_is}
+use Rattle.scene_model.proofs.WellFormedScenes.{well_formed}
 use Rattle.scene_model.proofs.fault_laws.faultless_by_place.Goals as goal
 
 pub returns : goal.returns
@@ -10,4 +11,5 @@ returns c = record {
   connections = λ scene c faultless lt. connection_is scene faultless c lt;
   joined_once = λ scene c d faultless before lt. joined_once scene faultless c d before lt;
   fed_once = λ scene b p faultless continuous. links_to-few scene faultless b p continuous;
+  well_formed = well_formed;
 }
