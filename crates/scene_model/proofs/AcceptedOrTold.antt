@@ -6,13 +6,11 @@ use Rattle.scene_model.specs.declared.wait.Wait.{Wait}
 use Rattle.scene_model.specs.Cover.{AllCovered, HasUncovered, IsTold}
 use Rattle.scene_model.specs.Faults.{IsFaultless}
 use Rattle.scene_model.specs.Orders.{IsLive}
-use Rattle.scene_model.specs.Waits.{AreLimits, IsAccepted, Limits, block_wait, room_wait, stated_limits, waits}
-use Rattle.scene_model.specs.WellFormed.{IsWellFormed}
+use Rattle.scene_model.specs.Waits.{AreLimits, IsAccepted, stated_limits, waits}
 use Rattle.scene_model.proofs.Accepted.{accepted_live}
-use Rattle.scene_model.proofs.Chosen.{accepted_have_limits}
+use Rattle.scene_model.proofs.Chosen.{accepted_have_limits, between}
 use Rattle.scene_model.proofs.Cycles.{covered_or_not, passed_are_covered}
 use Rattle.scene_model.proofs.LeastWalks.{HasPotentials, IsBetween, potentials_or_uncovered}
-use Rattle.scene_model.proofs.SceneWaits.{All-waits, All-waits_of, limit_of}
 use Rattle.scene_model.proofs.ToldCycles.{HasTold, uncovered_has_told}
 use Rattle.scene_model.proofs.WellFormedScenes.{well_formed}
 
@@ -23,13 +21,6 @@ covered_or_told n all between = go (potentials_or_uncovered n all between)
     go : HasPotentials n all ⊎ HasUncovered all → AllCovered all ⊎ HasTold all
     go (inl (potentials, counted, passed)) = inl (passed_are_covered n potentials all passed)
     go (inr uncovered) = inr (uncovered_has_told all uncovered)
-
--- the waits of a scene are between its applications
-between : (scene : Scene) → IsWellFormed scene → (limits : Limits) → All (IsBetween (length scene.apps)) (waits scene limits)
-unfolding block_wait room_wait
-between scene ok limits =
-    All-waits (IsBetween (length scene.apps)) scene limits (λ c link.
-    All-waits_of (IsBetween (length scene.apps)) scene c (limit_of limits c) (ok.receivers c link, ok.senders c link) (λ m is. (ok.senders c link, ok.receivers c link)))
 
 pub accepted_or_told : (scene : Scene) → IsFaultless scene → IsAccepted scene ⊎ HasTold (waits scene (stated_limits scene))
 accepted_or_told scene faultless =

@@ -24,7 +24,7 @@ use Rattle.scene_model.proofs.Searching.{IsFirst, first}
 
 module _ (scene : Scene) (ok : IsWellFormed scene) where
   -- the waits of a scene are between its applications
-  between : (limits : Limits) → All (IsBetween (length scene.apps)) (waits scene limits)
+  pub between : (limits : Limits) → All (IsBetween (length scene.apps)) (waits scene limits)
   unfolding block_wait room_wait
   between limits = All-waits (IsBetween (length scene.apps)) scene limits (λ c link. All-waits_of (IsBetween (length scene.apps)) scene c (limit_of limits c) (ok.receivers c link, ok.senders c link) (λ m is. (ok.senders c link, ok.receivers c link)))
 

@@ -53,8 +53,8 @@ block_within scene c timed =
     let g = grain_at scene c timed in
     let t = timed.receives in
     record {
-      waiter = timed.ends.receiver_stands;
-      awaited = timed.ends.sender_stands;
+      waiter = timed.ends.to_app;
+      awaited = timed.ends.from_app;
       allowance_low = omega (arith, ints, r.low);
       allowance_high = omega (arith, ints, r.high);
       burden_low = omega (arith, ints, g.within);
@@ -77,8 +77,8 @@ room_within scene c m timed few =
     let receive = tick scene (receiver scene c) in
     let high : (m + 1) * send + receive ≤ 2 * 10 ^ 29 = room_high m send receive few timed.sends.tick_to timed.receives.tick_to in
     record {
-      waiter = timed.ends.sender_stands;
-      awaited = timed.ends.receiver_stands;
+      waiter = timed.ends.from_app;
+      awaited = timed.ends.to_app;
       allowance_low = omega (arith, ints, r.high);
       allowance_high = omega (arith, ints, r.low, high);
       burden_low = omega (arith, ints);

@@ -11,8 +11,9 @@ use Rattle.scene_model.specs.Scenes.{sender, receiver}
 use Rattle.scene_model.specs.Cover.{AllCovered, HasUncovered, Passes, IsTold, allowances, burdens}
 use Rattle.scene_model.specs.Waits.{waits, stated, stated_limits, block_wait, room_wait, IsAccepted, IsLimit, AreLimits, Fits, greatest_limit, greatest_potential}
 use Rattle.scene_model.specs.WellFormed.{IsWellFormed}
+use Rattle.scene_model.specs.declared.scene.Scene.{Scene}
 use Rattle.scene_model.specs.declared.wait.Wait.{Wait}
-use Rattle.scene_model.specs.WorkedOrders.{two_ways, pair, own_loop}
+use Rattle.scene_model.specs.WorkedWaits.{latency_of_a_tick, little_room, no_latency, short_latency, to_itself, to_itself_late, two_ways}
 use Rattle.scene_model.proofs.Cycles.{passed_are_covered}
 
 -- ---- cycles of one and of two waits
@@ -124,49 +125,50 @@ four_ways-limit (suc (suc c)) lt = absurd (omega arith)
 pub four_ways-limits : AreLimits (two_ways (Some 4)) (1 ∷ 4 ∷ [])
 four_ways-limits = record { counted = refl; each = four_ways-limit }
 
-pub three_ways-told : IsTold (waits (two_ways (Some 3)) (stated_limits (two_ways (Some 3)))) (room_wait (two_ways (Some 3)) 1 3 ∷ block_wait (two_ways (Some 3)) 0 ∷ [])
+pub three_ways-told : IsTold (waits little_room (stated_limits little_room)) (room_wait little_room 1 3 ∷ block_wait little_room 0 ∷ [])
 unfolding allowance latency delay tick sender receiver gcd floor_to block_wait room_wait stated
 three_ways-told =
-    told_two (waits (two_ways (Some 3)) (stated_limits (two_ways (Some 3)))) (room_wait (two_ways (Some 3)) 1 3) (block_wait (two_ways (Some 3)) 0) refl refl (omega arith) (2, omega arith, refl) (0, omega arith, refl) (omega (arith, ints))
+    told_two (waits little_room (stated_limits little_room)) (room_wait little_room 1 3) (block_wait little_room 0) refl refl (omega arith) (2, omega arith, refl) (0, omega arith, refl) (omega (arith, ints))
 
 -- ---- loops
 
-abbrev pub pair_cycle : ℕ → ℕ → List Wait
-pair_cycle a b = block_wait (pair a b) 1 ∷ block_wait (pair a b) 0 ∷ []
+-- the applications of a pair wait for each other's blocks
+abbrev pub pair_cycle : Scene → List Wait
+pair_cycle scene = block_wait scene 1 ∷ block_wait scene 0 ∷ []
 
-pub pair-no_latency : IsTold (waits (pair 0 0) (stated_limits (pair 0 0))) (pair_cycle 0 0)
+pub pair-no_latency : IsTold (waits no_latency (stated_limits no_latency)) (pair_cycle no_latency)
 unfolding allowance latency delay tick sender receiver gcd floor_to block_wait room_wait stated
-pair-no_latency = told_two (waits (pair 0 0) (stated_limits (pair 0 0))) (block_wait (pair 0 0) 1) (block_wait (pair 0 0) 0) refl refl (omega arith) (1, omega arith, refl) (0, omega arith, refl) (omega (arith, ints))
+pair-no_latency = told_two (waits no_latency (stated_limits no_latency)) (block_wait no_latency 1) (block_wait no_latency 0) refl refl (omega arith) (1, omega arith, refl) (0, omega arith, refl) (omega (arith, ints))
 
-pub pair-almost : IsTold (waits (pair 900_000 0) (stated_limits (pair 900_000 0))) (pair_cycle 900_000 0)
+pub pair-almost : IsTold (waits short_latency (stated_limits short_latency)) (pair_cycle short_latency)
 unfolding allowance latency delay tick sender receiver gcd floor_to block_wait room_wait stated
-pair-almost = told_two (waits (pair 900_000 0) (stated_limits (pair 900_000 0))) (block_wait (pair 900_000 0) 1) (block_wait (pair 900_000 0) 0) refl refl (omega arith) (1, omega arith, refl) (0, omega arith, refl) (omega (arith, ints))
+pair-almost = told_two (waits short_latency (stated_limits short_latency)) (block_wait short_latency 1) (block_wait short_latency 0) refl refl (omega arith) (1, omega arith, refl) (0, omega arith, refl) (omega (arith, ints))
 
-pub pair-accepted : IsAccepted (pair 1_000_000 0)
+pub pair-accepted : IsAccepted latency_of_a_tick
 unfolding allowance latency delay tick sender receiver gcd floor_to block_wait room_wait stated
-pair-accepted = covered_by 2 (pos 0 ∷ pos 1 ∷ []) (waits (pair 1_000_000 0) (stated_limits (pair 1_000_000 0))) (omega (arith, ints), (omega (arith, ints), tt))
+pair-accepted = covered_by 2 (pos 0 ∷ pos 1 ∷ []) (waits latency_of_a_tick (stated_limits latency_of_a_tick)) (omega (arith, ints), (omega (arith, ints), tt))
 
-pair-first : AllCovered (waits (pair 1_000_000 0) (Some 1 ∷ None ∷ []))
+pair-first : AllCovered (waits latency_of_a_tick (Some 1 ∷ None ∷ []))
 unfolding allowance latency delay tick sender receiver gcd floor_to block_wait room_wait
-pair-first = covered_by 2 (pos 0 ∷ pos 1 ∷ []) (waits (pair 1_000_000 0) (Some 1 ∷ None ∷ [])) (omega (arith, ints), (omega (arith, ints), (omega (arith, ints), tt)))
+pair-first = covered_by 2 (pos 0 ∷ pos 1 ∷ []) (waits latency_of_a_tick (Some 1 ∷ None ∷ [])) (omega (arith, ints), (omega (arith, ints), (omega (arith, ints), tt)))
 
-pair-second : AllCovered (waits (pair 1_000_000 0) (Some 1 ∷ Some 1 ∷ []))
+pair-second : AllCovered (waits latency_of_a_tick (Some 1 ∷ Some 1 ∷ []))
 unfolding allowance latency delay tick sender receiver gcd floor_to block_wait room_wait
-pair-second = covered_by 2 (pos 0 ∷ pos 1 ∷ []) (waits (pair 1_000_000 0) (Some 1 ∷ Some 1 ∷ [])) (omega (arith, ints), (omega (arith, ints), (omega (arith, ints), (omega (arith, ints), tt))))
+pair-second = covered_by 2 (pos 0 ∷ pos 1 ∷ []) (waits latency_of_a_tick (Some 1 ∷ Some 1 ∷ [])) (omega (arith, ints), (omega (arith, ints), (omega (arith, ints), (omega (arith, ints), tt))))
 
-pair-limit : (c : ℕ) → c < 2 → IsLimit (pair 1_000_000 0) (1 ∷ 1 ∷ []) c (stated (pair 1_000_000 0) c)
+pair-limit : (c : ℕ) → c < 2 → IsLimit latency_of_a_tick (1 ∷ 1 ∷ []) c (stated latency_of_a_tick c)
 unfolding sender receiver stated
 pair-limit zero lt = record { some = omega arith; covered = pair-first; least = λ less low high. absurd (omega arith) }
 pair-limit (suc zero) lt = record { some = omega arith; covered = pair-second; least = λ less low high. absurd (omega arith) }
 pair-limit (suc (suc c)) lt = absurd (omega arith)
 
-pub pair-limits : AreLimits (pair 1_000_000 0) (1 ∷ 1 ∷ [])
+pub pair-limits : AreLimits latency_of_a_tick (1 ∷ 1 ∷ [])
 pair-limits = record { counted = refl; each = pair-limit }
 
-pub own_loop-accepted : IsAccepted (own_loop 1_000_000)
+pub own_loop-accepted : IsAccepted to_itself_late
 unfolding allowance latency delay tick sender receiver gcd floor_to block_wait room_wait stated
-own_loop-accepted = covered_by 1 (pos 0 ∷ []) (waits (own_loop 1_000_000) (stated_limits (own_loop 1_000_000))) (omega (arith, ints), tt)
+own_loop-accepted = covered_by 1 (pos 0 ∷ []) (waits to_itself_late (stated_limits to_itself_late)) (omega (arith, ints), tt)
 
-pub own_loop-almost : IsTold (waits (own_loop 999_999) (stated_limits (own_loop 999_999))) (block_wait (own_loop 999_999) 0 ∷ [])
+pub own_loop-almost : IsTold (waits to_itself (stated_limits to_itself)) (block_wait to_itself 0 ∷ [])
 unfolding allowance latency delay tick sender receiver gcd floor_to block_wait room_wait stated
-own_loop-almost = told_one (waits (own_loop 999_999) (stated_limits (own_loop 999_999))) (block_wait (own_loop 999_999) 0) refl (0, omega arith, refl) (omega (arith, ints))
+own_loop-almost = told_one (waits to_itself (stated_limits to_itself)) (block_wait to_itself 0) refl (0, omega arith, refl) (omega (arith, ints))

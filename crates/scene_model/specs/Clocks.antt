@@ -1,6 +1,6 @@
 -- Steps and clocks, due steps, and the blocks that a step wants. All times are in ns.
 use Rattle.std.specs.Prelude.{ℕ, zero, suc, ◌+◌, ◌*◌, ◌/◌, Bool, true, false, int_lt, ℤ, pos, ◌+ℤ◌, ◌-ℤ◌}
-use Rattle.std.specs.Int.{div_ceil}
+use Rattle.music_base.specs.Clocks.{steps_until}
 use Rattle.music_base.specs.Numbers.{count_below}
 use Rattle.scene_model.specs.Scenes.{app_at, sender, receiver, input_of}
 use Rattle.scene_model.specs.declared.scene.Scene.{Scene}
@@ -14,7 +14,7 @@ tick scene a = (app_at scene a).tick
 
 -- how many steps an application runs: each whose clock is below the stop
 unfoldable pub steps : Scene → ℕ → ℕ
-steps scene a = div_ceil scene.stop (tick scene a)
+steps scene a = steps_until scene.stop (tick scene a)
 
 -- the time that s steps take
 abbrev pub run_time : Scene → ℕ → ℕ → ℕ

@@ -1,4 +1,4 @@
--- Small scenes whose waits can be followed by hand. Times are in ns.
+-- Small scenes whose waits and limits can be followed by hand. Times are in ns.
 use Rattle.std.specs.Prelude.{ℕ, List, [], ◌∷◌, Option, Some, codes}
 use Rattle.scene_model.specs.WorkedScenes.{connected, input, linear, link, ms, output}
 use Rattle.scene_model.specs.declared.port.PortDecl.{PortDecl}
@@ -58,16 +58,20 @@ to_itself_late = alone (ms 1)
 
 -- ---- two connections from one application to another
 
--- the second output keeps three blocks, and the input that it leads to has a latency of five
-abbrev pub little_room : Scene
-little_room = record {
+-- the second output may state how much it buffers, and the input that it leads to has a latency of five ticks
+abbrev pub two_ways : Option ℕ → Scene
+two_ways buffered = record {
   stop = ms 10;
   apps =
-      record { name = codes "gen"; np = 1; tick = ms 1; ports = event_output (codes "a") ∷ record (event_output (codes "b")) { buffered = Some 3 } ∷ []; rules = [] }
+      record { name = codes "gen"; np = 1; tick = ms 1; ports = event_output (codes "a") ∷ record (event_output (codes "b")) { buffered = buffered } ∷ []; rules = [] }
       ∷ record { name = codes "sink"; np = 1; tick = ms 1; ports = event_input (codes "p") 0 ∷ event_input (codes "q") (ms 5) ∷ []; rules = [] }
       ∷ [];
   links = link 0 0 1 0 ∷ link 0 1 1 1 ∷ [];
 }
+
+-- the second output keeps three blocks, which is one too few
+abbrev pub little_room : Scene
+little_room = two_ways (Some 3)
 
 -- ---- one connection whose ends state how many ticks they buffer
 

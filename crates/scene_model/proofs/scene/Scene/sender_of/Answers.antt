@@ -1,11 +1,11 @@
 use Rattle.std.proofs.Common.{ap}
 use Rattle.scene_model.specs.Scenes.{app_at, sender}
-use Rattle.scene_model.proofs.Bounds.{has_ends_at}
+use Rattle.scene_model.proofs.Faultless.{connection_is}
 use Rattle.scene_model.proofs.scene.Scene.sender_of.Goals as goal
 
 pub app-requires : goal.app-requires
 unfolding sender
-app-requires c = rw c.link.ensures (has_ends_at c.args.self.now c.args.link c.requires.scene c.requires.link).sender_stands
+app-requires c = rw c.link.ensures (connection_is c.args.self.now c.requires.scene c.args.link c.requires.link).from_app
 
 pub returns : goal.returns
 unfolding sender
