@@ -6,7 +6,7 @@ ghost use Rattle.scene_model.specs.WorkedWaits.{buffering, uneven_ticks};
 ghost use Rattle.scene_model.specs.declared.wait.WaitKind.TheVariants.{ForBlock, ForRoom};
 
 /// The limits that the ends of one connection state, by how long both tick and how many ticks each buffers.
-pub fn worked_limits_hold()
+pub fn worked_stated_limits_hold()
     ensures none { stated_limits (buffering (ms 1) (ms 1) None None) ≡ None ∷ [] }
     ensures of_output { stated_limits (buffering (ms 1) (ms 1) (Some 3) None) ≡ Some 3 ∷ [] }
     // Five ticks of 3 ms hold seven whole ones of 2 ms, and one of a millisecond holds none of 10 ms.

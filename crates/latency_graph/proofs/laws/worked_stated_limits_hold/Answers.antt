@@ -2,7 +2,7 @@ use Rattle.std.proofs.Common.{refl}
 use Rattle.scene_model.specs.Clocks.{tick}
 use Rattle.scene_model.specs.Scenes.{receiver, sender}
 use Rattle.scene_model.specs.Waits.{stated}
-use Rattle.latency_graph.proofs.laws.worked_limits_hold.Goals as goal
+use Rattle.latency_graph.proofs.laws.worked_stated_limits_hold.Goals as goal
 
 pub returns : goal.returns
 unfolding sender receiver tick stated
