@@ -1,17 +1,17 @@
 -- What the stop, the applications and the links of a configuration give for its scene.
 use Rattle.std.proofs.Common.{◌≡◌, ℕ, ◌<◌, ◌≤◌, List, length, Ok, refl}
-use Rattle.std.specs.Prelude.{All}
-use Rattle.std.proofs.lemmas.List.Elements.{All-get_or}
+use Rattle.music_base.proofs.Lists.{All-at}
 use Rattle.config_text.specs.declared.config.Config.{Config}
 use Rattle.scene_model.specs.Scenes.{no_app}
 use Rattle.scene_model.specs.declared.scene.AppDecl.{AppDecl}
 use Rattle.scene_model.specs.declared.scene.Link.{Link}
+use Rattle.scene_model.specs.Faults.{AreApps, IsApp}
 use Rattle.scene_model.specs.Limits.{most_ports}
 use Rattle.scene_model.specs.Links.{app_of}
 use Rattle.port_match.specs.Links.{links_of, IsFaultOf}
 use Rattle.port_match.specs.declared.fault.MatchFault.{MatchFault}
 use Rattle.port_match.specs.declared.fault.MatchFault.TheVariants as match
-use Rattle.music_setup.specs.Apps.{HasFewPorts, apps_of}
+use Rattle.music_setup.specs.Apps.{apps_of}
 use Rattle.music_setup.specs.Faults.{IsSceneFault, IsSetupFault, of_links}
 use Rattle.music_setup.specs.Scenes.{scene_of}
 use Rattle.music_setup.specs.declared.fault.SetupFault.{SetupFault}
@@ -37,5 +37,6 @@ pub read_scene : (config : Config) (stop : ℕ) (apps : List AppDecl) (links : L
 unfolding scene_of
 read_scene config stop apps links read made = rw (read, made) refl
 
-pub few_ports : (apps : List AppDecl) → All HasFewPorts apps → (a : ℕ) → a < length apps → length (app_of apps a).ports ≤ most_ports
-few_ports apps few a stands = All-get_or HasFewPorts apps a no_app stands few
+-- applications without a fault have few ports
+pub few_ports : (stop : ℕ) (apps : List AppDecl) → AreApps stop apps → (a : ℕ) → a < length apps → length (app_of apps a).ports ≤ most_ports
+few_ports stop apps are a stands = (All-at (IsApp stop) apps a no_app are.each stands).ports.few

@@ -13,7 +13,7 @@ use Rattle.config_text.specs.declared.config.Config.{Config}
 use Rattle.scene_model.specs.declared.port.PortDecl.{PortDecl}
 use Rattle.scene_model.specs.declared.rule.Rule.{Rule}
 use Rattle.scene_model.specs.declared.scene.AppDecl.{AppDecl}
-use Rattle.scene_model.specs.Limits.{most_ports, most_ranks, longest_tick, most_steps, most_values}
+use Rattle.scene_model.specs.Limits.{most_ranks, longest_tick, most_steps, most_values}
 use Rattle.port_table.specs.Ports.{ports_of}
 use Rattle.app_scripts.specs.Rules.{rules_of}
 use Rattle.scene_model.specs.Values.{values_in_run}
@@ -62,10 +62,6 @@ abbrev pub rules_in : List PortDecl → ℕ → ℕ → Option (List ℕ) → Re
 rules_in ports tick stop text = faults_as Rules (rules_of ports tick stop (unwrap_or text []))
 
 -- ---- an application
-
--- it has at most 64 ports
-abbrev pub HasFewPorts : AppDecl → Type 0
-HasFewPorts app = length app.ports ≤ most_ports
 
 -- nothing but this fault, where the test fails
 abbrev pub holds_or : {E : Type 0} → Bool → E → Result (Unit {0}) E

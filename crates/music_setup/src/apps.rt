@@ -1,12 +1,12 @@
 //! The stop and the applications of a configuration.
-ghost use Rattle.std.specs.Prelude.{◌≡◌, ◌<◌, ◌≤◌, true, length, nat_le, All, IfOk, IfErr};
+ghost use Rattle.std.specs.Prelude.{◌≡◌, ◌<◌, ◌≤◌, true, length, nat_le, IfOk, IfErr};
 ghost use Rattle.std.specs.Option.{option_copied};
 ghost use Rattle.config_text.specs.Pairs.{value_of};
-ghost use Rattle.scene_model.specs.Limits.{most_ports, most_ranks, most_apps, most_steps};
+ghost use Rattle.scene_model.specs.Limits.{most_ranks, most_steps};
 ghost use Rattle.scene_model.specs.Ports.{names_differ};
 ghost use Rattle.music_base.specs.Times.{greatest_time};
 ghost use Rattle.scene_model.specs.Faults.{AreApps};
-ghost use Rattle.music_setup.specs.Apps.{HasFewPorts, IsPace, app_in, apps_of, apps_until, pace_in, parts_in, ports_in, rules_in, stop_of};
+ghost use Rattle.music_setup.specs.Apps.{IsPace, app_in, apps_of, apps_until, pace_in, parts_in, ports_in, rules_in, stop_of};
 ghost use Rattle.music_setup.specs.Faults.{IsAppFault, IsSceneFault};
 
 use crate::fault::AppFault;
@@ -30,7 +30,6 @@ fn ports_in(alloc: Global, np: u32, text: Option<&Word>) -> Result<Items<PortDec
     requires most { np ≤ most_ranks }
     ensures ports { IfOk result (λ ports. ports_in np (option_copied text.entry) ≡ Ok ports) }
     ensures differ { IfOk result (λ ports. names_differ ports ≡ true) }
-    ensures few { IfOk result (λ ports. length ports ≤ most_ports) }
     ensures fault { IfErr result (IsAppFault (ports_in np (option_copied text.entry))) }
 {
     let none = Word::from_vec(Vec::new(alloc));
@@ -106,7 +105,6 @@ fn read_parts(
     requires place { place < length config.now.sections }
     requires pace { IsPace pace.np pace.tick }
     ensures parts { IfOk result (λ parts. parts_in config.now stop place pace.np pace.tick ≡ Ok (parts.0, parts.1)) }
-    ensures few { IfOk result (λ parts. length parts.0 ≤ most_ports) }
     ensures fault { IfErr result (IsAppFault (parts_in config.now stop place pace.np pace.tick)) }
 {
     let ports = ports_in(alloc, pace.np, setting(alloc, config, place, b"ports")?)?;
@@ -129,7 +127,6 @@ fn read_app(
 ) -> Result<AppDecl, AppFault>
     requires { place < length config.now.sections }
     ensures app { IfOk result (λ app. app_in config.now stop place name.now ≡ Ok app) }
-    ensures few { IfOk result (λ app. HasFewPorts app) }
     ensures fault { IfErr result (IsAppFault (app_in config.now stop place name.now)) }
 {
     let pace = read_pace(alloc, config, stop, place)?;
@@ -149,8 +146,6 @@ fn read_app(
 #[tactic(auto, using(crate::proofs::OfApps::few_sections))]
 fn apps_until(alloc: Global, config: &Config, stop: Nanos) -> Result<Items<AppDecl>, SetupFault>
     ensures apps { IfOk result (λ apps. apps_until config.now stop ≡ Ok apps) }
-    ensures few { IfOk result (λ apps. length apps ≤ most_apps) }
-    ensures few_ports { IfOk result (All HasFewPorts) }
     ensures lawful { IfOk result (AreApps stop) }
     ensures fault { IfErr result (IsSceneFault (apps_until config.now stop)) }
 {
@@ -187,8 +182,6 @@ fn stop_of(alloc: Global, config: &Config) -> Result<Nanos, SetupFault>
 #[tactic(auto, unfolding(crate::specs::Apps::apps_of))]
 pub fn read_apps(alloc: Global, config: &Config) -> Result<(Nanos, Items<AppDecl>), SetupFault>
     ensures apps { IfOk result (λ read. apps_of config.now ≡ Ok (read.0, read.1)) }
-    ensures few { IfOk result (λ read. length read.1 ≤ most_apps) }
-    ensures few_ports { IfOk result (λ read. All HasFewPorts read.1) }
     ensures early { IfOk result (λ read. read.0 ≤ greatest_time) }
     ensures lawful { IfOk result (λ read. AreApps read.0 read.1) }
     ensures fault { IfErr result (IsSceneFault (apps_of config.now)) }

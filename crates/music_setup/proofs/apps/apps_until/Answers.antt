@@ -2,8 +2,7 @@
 use Rattle.std.proofs.Common.{◌≡◌, ◌≤◌, drop, length, [], refl, sym, ◌∙◌, arith}
 use Rattle.std.specs.Prelude.{Ok}
 use Rattle.std.proofs.lemmas.List.{drop_all, length-append}
-use Rattle.std.proofs.lemmas.List.Elements.{All-push}
-use Rattle.music_setup.specs.Apps.{HasFewPorts, apps_until}
+use Rattle.music_setup.specs.Apps.{apps_until}
 use Rattle.music_setup.proofs.Faultless.{apps_are}
 use Rattle.music_setup.proofs.Next.{next_app, next_fault}
 use Rattle.music_setup.proofs.apps.apps_until.Goals as goal
@@ -19,7 +18,6 @@ loop-place-preserved c =
     rw c.in_ok-push-in-Ok.ensures.ok (record {
       read = sym next ∙ c.loop-place.invariant.read;
       counted = rw (length-append, c.loop-place.invariant.counted) refl;
-      few = All-push HasFewPorts c.loop-place.apps c.in-Ok.app c.loop-place.invariant.few c.in-Ok.ensures.few;
     })
 
 pub returns-clause-lawful : goal.returns-clause-lawful

@@ -1,5 +1,12 @@
 use Rattle.music_setup.proofs.Faultless.{linked_is}
+use Rattle.music_setup.proofs.OfScenes.{few_ports}
 use Rattle.music_setup.proofs.scenes.read_scene.Goals as goal
+
+pub match_links-requires-clause-apps : goal.match_links-requires-clause-apps
+match_links-requires-clause-apps c = rw c.as_slice.ensures c.in_ok-stop.ensures.lawful.few
+
+pub match_links-requires-clause-ports : goal.match_links-requires-clause-ports
+match_links-requires-clause-ports c = rw c.as_slice.ensures (few_ports c.in_ok-stop.stop c.in_ok-stop.apps c.in_ok-stop.ensures.lawful)
 
 pub returns-clause-faultless : goal.returns-clause-faultless
 returns-clause-faultless c =
