@@ -7,14 +7,14 @@ use Rattle.config_text.specs.declared.config.Config.{Config}
 use Rattle.config_text.specs.declared.form.FirstForm.{FirstForm}
 use Rattle.config_text.specs.declared.text_kind.TextKind.{TextKind}
 use Rattle.scene_model.specs.Cover.{IsTold}
-use Rattle.scene_model.specs.Logs.{log_of}
+use Rattle.scene_model.specs.Logs.{line_end, log_of}
 use Rattle.scene_model.specs.Orders.{IsLive}
 use Rattle.scene_model.specs.Waits.{AreLimits, IsAccepted, stated_limits, waits}
 use Rattle.scene_model.specs.declared.scene.Scene.{Scene}
 use Rattle.scene_model.specs.declared.wait.Wait.{Wait}
 use Rattle.cycle_check.specs.CycleTexts.{cycle_text}
 use Rattle.music_setup.specs.Scenes.{scene_of}
-use Rattle.music_setup.specs.Texts.{line_end, text_of_fault}
+use Rattle.music_setup.specs.Texts.{text_of_fault}
 use Rattle.music_setup.specs.declared.fault.SetupFault.{SetupFault}
 use Rattle.music_setup.specs.declared.fault.SetupFault.TheVariants as setup
 use Rattle.plain_run.specs.Plain as plain

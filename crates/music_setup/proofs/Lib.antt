@@ -1,6 +1,7 @@
 pub mod Capped
 pub mod Next
 pub mod OfApps
+pub mod NoMemory
 pub mod OfConfig
 pub mod OfSetups
 pub mod NamedCycles

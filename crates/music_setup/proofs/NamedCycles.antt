@@ -19,7 +19,7 @@ use Rattle.music_setup.specs.Apps.{apps_until, stop_of}
 use Rattle.music_setup.specs.Scenes as scenes
 use Rattle.music_setup.specs.Scenes.{links_of, scene_of}
 use Rattle.music_setup.specs.SmallScenes.{plain_app}
-use Rattle.music_setup.specs.Texts.{named_apps, named_scene, text_of_fault, uncovered_text}
+use Rattle.music_setup.specs.Texts.{named_apps, named_scene, uncovered_text}
 use Rattle.music_setup.specs.declared.fault.SetupFault.TheVariants as setup
 use Rattle.music_setup.proofs.Faultless.{HaveNames, names_are}
 

@@ -1,6 +1,6 @@
 -- What a fault names stands in its configuration.
-use Rattle.std.proofs.Common.{◌≡◌, ℕ, ◌<◌, List, length, Option, Some, None, refl, ap, arith}
-use Rattle.std.specs.Prelude.{Result, Ok, Err, slice_get, IsSomeAnd}
+use Rattle.std.proofs.Common.{◌≡◌, ℕ, ◌<◌, List, length, Option, Some, None, refl, ap, subst, arith}
+use Rattle.std.specs.Prelude.{Result, Ok, Err, IfErr, slice_get, IsSomeAnd}
 use Rattle.std.proofs.lemmas.Option.{slice_get_within}
 use Rattle.text_words.specs.InTurn.{◌>>=◌, some_or, faults_as}
 use Rattle.text_words.proofs.Turns.{first_fault}
@@ -14,15 +14,20 @@ use Rattle.port_match.specs.declared.fault.MatchFault.TheVariants as match
 use Rattle.music_setup.specs.Apps.{app_beside, app_in, apps_until, apps_of, stop_of, stop_in}
 use Rattle.music_setup.specs.Faults.{of_links, IsSetupFault}
 use Rattle.music_setup.specs.Scenes.{scene_of, links_of}
-use Rattle.music_setup.specs.Texts.{HasText}
+use Rattle.music_setup.specs.Texts.{HasKindText, HasText}
 use Rattle.music_setup.specs.declared.fault.AppKind.{AppKind}
 use Rattle.music_setup.specs.declared.fault.SceneFault.{SceneFault}
 use Rattle.music_setup.specs.declared.fault.SceneFault.TheVariants.{StopMissing, StopText, App}
 use Rattle.music_setup.specs.declared.fault.SetupFault.{SetupFault}
 use Rattle.music_setup.specs.declared.fault.SetupFault.TheVariants as setup
+use Rattle.music_setup.proofs.NoMemory.{of_app}
 
 abbrev Fails : {A E : Type 0} → E → Result A E
 Fails fault = Err fault
+
+-- application a is one of the sections, and what is wrong with it has a text
+abbrev IsNamed : Config → ℕ → AppKind → Type 0
+IsNamed config a kind = (a < length config.sections) × HasKindText kind
 
 -- ---- applications
 
@@ -31,16 +36,21 @@ beside_place : (before a : ℕ) (reading : Result AppDecl AppKind) (kind : AppKi
 beside_place before a (Ok app) kind e = absurd cc
 beside_place before a (Err fault) kind e = cc
 
+-- what is wrong with it is what reading it answers
+beside_kind : (before a : ℕ) (reading : Result AppDecl AppKind) (kind : AppKind) → IfErr reading HasKindText → faults_as (App before) reading ≡ Err (App a kind) → HasKindText kind
+beside_kind before a (Ok app) kind is e = absurd cc
+beside_kind before a (Err fault) kind is e = let same : fault ≡ kind = cc in subst HasKindText same is
+
 -- that of the first faulty one is one of the places
 first_place : (config : Config) (stop : ℕ) (before : List AppDecl) (i a : ℕ) (kind : AppKind) (section : Option (List ℕ × SettingList))
-    → slice_get config.sections i ≡ section → length before ≡ i → IsSomeAnd section (λ s. app_beside config stop before s ≡ Err (App a kind)) → a < length config.sections
+    → slice_get config.sections i ≡ section → length before ≡ i → IsSomeAnd section (λ s. app_beside config stop before s ≡ Err (App a kind)) → IsNamed config a kind
 first_place config stop before i a kind None is counts faulty = absurd faulty
 first_place config stop before i a kind (Some s) is counts faulty =
     let place : length before ≡ a = beside_place (length before) a (app_in config stop (length before) s.0) kind faulty in
     let within : i < length config.sections = slice_get_within config.sections i s is in
-    omega (arith, place, counts, within)
+    (omega (arith, place, counts, within), beside_kind (length before) a (app_in config stop (length before) s.0) kind (of_app config stop (length before) s.0) faulty)
 
-app_until : (config : Config) (stop a : ℕ) (kind : AppKind) → apps_until config stop ≡ Err (App a kind) → a < length config.sections
+app_until : (config : Config) (stop a : ℕ) (kind : AppKind) → apps_until config stop ≡ Err (App a kind) → IsNamed config a kind
 app_until config stop a kind e =
     let first = first_fault (app_beside config stop) config.sections (App a kind) e in
     first_place config stop first.1 first.0 a kind (slice_get config.sections first.0) refl first.2.counts first.2.faulty
@@ -72,11 +82,11 @@ abbrev behind : Config → ℕ → Result (ℕ × List AppDecl) SceneFault
 behind config stop = apps_until config stop >>= λ apps. Ok (with_stop stop apps)
 
 behind_stop : (config : Config) (stop : Result ℕ SceneFault) (a : ℕ) (kind : AppKind) → (stop ≡ Err (App a kind) → ⊥)
-    → (stop >>= behind config) ≡ Err (App a kind) → a < length config.sections
+    → (stop >>= behind config) ≡ Err (App a kind) → IsNamed config a kind
 behind_stop config (Ok stop) a kind none e = app_until config stop a kind (fault_of_first (apps_until config stop) (with_stop stop) (App a kind) e)
 behind_stop config (Err fault) a kind none e = let same : fault ≡ App a kind = cc in absurd (none (ap (λ (f : SceneFault). Fails {A = ℕ} f) same))
 
-in_apps : (config : Config) (a : ℕ) (kind : AppKind) → apps_of config ≡ Err (App a kind) → a < length config.sections
+in_apps : (config : Config) (a : ℕ) (kind : AppKind) → apps_of config ≡ Err (App a kind) → IsNamed config a kind
 unfolding apps_of
 in_apps config a kind e = behind_stop config (stop_of config) a kind (stop_names_none _ a kind) e
 
@@ -98,8 +108,8 @@ from_apps : (config : Config) (reading : Result (ℕ × List AppDecl) SceneFault
 from_apps config (Ok read) fault e = absurd (links_are_apart _ (scene_with read) fault e)
 from_apps config (Err other) fault e = let same : other ≡ fault = cc in ap (λ (f : SceneFault). Fails {A = ℕ × List AppDecl} f) same
 
--- the application that a scene fault names is one of the sections
-pub app_of_config : (config : Config) (a : ℕ) (kind : AppKind) → scene_of config ≡ Err (setup.Scene (App a kind)) → a < length config.sections
+-- so is the application that a scene fault names
+app_of_config : (config : Config) (a : ℕ) (kind : AppKind) → scene_of config ≡ Err (setup.Scene (App a kind)) → IsNamed config a kind
 unfolding scene_of
 app_of_config config a kind e = in_apps config a kind (from_apps config (apps_of config) (App a kind) e)
 

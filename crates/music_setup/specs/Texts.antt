@@ -1,5 +1,5 @@
 -- The text of each fault, a line with its end.
-use Rattle.std.specs.Prelude.{ℕ, suc, ⊤, ◌<◌, ◌≤◌, List, [], ◌∷◌, ◌++◌, length, map, slice_index_or, codes, All, Option, Some, None}
+use Rattle.std.specs.Prelude.{◌≢◌, ℕ, suc, ⊤, ◌<◌, ◌≤◌, List, [], ◌∷◌, ◌++◌, length, map, slice_index_or, codes, All, Option, Some, None}
 use Rattle.std.specs.Fmt.{decimal}
 use Rattle.config_text.specs.Pairs.{SectionList, SettingList}
 use Rattle.config_text.specs.declared.config.Config.{Config}
@@ -12,6 +12,7 @@ use Rattle.app_scripts.specs.declared.fault.RuleFault.TheVariants as rule
 use Rattle.port_match.specs.declared.fault.LinkKind.{LinkKind}
 use Rattle.port_match.specs.declared.fault.LinkKind.TheVariants.{UnknownApp, UnknownPort, Direction, Kind, Width, Unmapped, PairTwice, ContTwice}
 use Rattle.scene_model.specs.Cover.{IsBounded, most_waits}
+use Rattle.scene_model.specs.Logs.{line_end}
 use Rattle.scene_model.specs.declared.scene.AppDecl.{AppDecl}
 use Rattle.scene_model.specs.declared.scene.Scene.{Scene}
 use Rattle.scene_model.specs.declared.wait.Wait.{Wait}
@@ -23,10 +24,6 @@ use Rattle.music_setup.specs.declared.fault.SceneFault.{SceneFault}
 use Rattle.music_setup.specs.declared.fault.SceneFault.TheVariants.{StopMissing, StopText, App}
 use Rattle.music_setup.specs.declared.fault.SetupFault.{SetupFault}
 use Rattle.music_setup.specs.declared.fault.SetupFault.TheVariants as setup
-
--- LF
-abbrev pub line_end : ℕ
-line_end = 10
 
 -- ---- a text
 
@@ -58,12 +55,12 @@ at_port place kind = at_place (codes "port ") place kind
 abbrev pub at_rule : ℕ → List ℕ → List ℕ
 at_rule place kind = at_place (codes "rule ") place kind
 
--- want of memory is no fault of ports or rules; it has this text for the sake of completeness
+-- want of memory has no text
 unfoldable pub port_text : PortFault → List ℕ
 port_text (port.PortText place) = at_port place (codes "PortText")
 port_text (port.MapRepeated place index) = at_port place (codes "MapRepeated")
 port_text (port.OutputTwice place index) = at_port place (codes "OutputTwice")
-port_text port.Memory = codes "Memory"
+port_text port.Memory = []
 
 unfoldable pub rule_text : RuleFault → List ℕ
 rule_text (rule.RuleText place) = at_rule place (codes "RuleText")
@@ -71,7 +68,7 @@ rule_text (rule.RulePort place) = at_rule place (codes "RulePort")
 rule_text (rule.RuleIndex place) = at_rule place (codes "RuleIndex")
 rule_text (rule.RuleAfter place) = at_rule place (codes "RuleAfter")
 rule_text (rule.RuleRate place) = at_rule place (codes "RuleRate")
-rule_text rule.Memory = codes "Memory"
+rule_text rule.Memory = []
 
 -- ---- a scene
 
@@ -146,11 +143,17 @@ abbrev pub HasApp : Option Config → ℕ → Type 0
 HasApp None a = ⊥
 HasApp (Some config) a = a < length config.sections
 
--- the application that the fault names stands in the configuration
+-- a fault of ports or rules that has a text: want of memory is none
+abbrev pub HasKindText : AppKind → Type 0
+HasKindText (Ports fault) = fault ≢ port.Memory
+HasKindText (Rules fault) = fault ≢ rule.Memory
+HasKindText _ = ⊤
+
+-- the application that the fault names stands in the configuration, and what is wrong with it has a text
 abbrev pub IsOfConfig : Option Config → SceneFault → Type 0
 IsOfConfig config StopMissing = ⊤
 IsOfConfig config StopText = ⊤
-IsOfConfig config (App a kind) = HasApp config a
+IsOfConfig config (App a kind) = HasApp config a × HasKindText kind
 
 -- a cycle of n applications whose numbers and length are within bounds
 pub record HasCycleText (n : ℕ) (cycle : List Wait) : Type 0 where

@@ -78,7 +78,7 @@ fn port_text(alloc: Global, fault: PortFault) -> Result<Vec<u8>, NoMemory>
         PortFault::PortText { place } => at_place(alloc, b"port ", place, b"PortText"),
         PortFault::MapRepeated { place, .. } => at_place(alloc, b"port ", place, b"MapRepeated"),
         PortFault::OutputTwice { place, .. } => at_place(alloc, b"port ", place, b"OutputTwice"),
-        PortFault::Memory => Ok(Vec::from_slice(alloc, b"Memory")?),
+        PortFault::Memory => Ok(Vec::new(alloc)),
     }
 }
 
@@ -92,7 +92,7 @@ fn rule_text(alloc: Global, fault: RuleFault) -> Result<Vec<u8>, NoMemory>
         RuleFault::RuleIndex { place } => at_place(alloc, b"rule ", place, b"RuleIndex"),
         RuleFault::RuleAfter { place } => at_place(alloc, b"rule ", place, b"RuleAfter"),
         RuleFault::RuleRate { place } => at_place(alloc, b"rule ", place, b"RuleRate"),
-        RuleFault::Memory => Ok(Vec::from_slice(alloc, b"Memory")?),
+        RuleFault::Memory => Ok(Vec::new(alloc)),
     }
 }
 
