@@ -8,15 +8,15 @@ use music_base::NoMemory;
 #[derive(Clone, Copy, Debug, PartialEq, Eq)]
 pub enum RuleFault {
     /// The rule has none of the nine forms, or is one too many.
-    RuleText { place: u64 },
+    RuleText { place: u32 },
     /// A port that it names is absent, or of another direction or kind.
-    RulePort { place: u64 },
+    RulePort { place: u32 },
     /// An index that it states is mapped by no rank of its port.
-    RuleIndex { place: u64 },
+    RuleIndex { place: u32 },
     /// It passes on a tick later, or later still.
-    RuleAfter { place: u64 },
+    RuleAfter { place: u32 },
     /// Its period is 0, or the whole run holds more than 1,000,000 of it.
-    RuleRate { place: u64 },
+    RuleRate { place: u32 },
     /// Memory was asked for and not found.
     Memory,
 }

@@ -33,7 +33,7 @@ fn read_rule(
     ensures rule { IfOk result (λ rule. rule_beside ports.now tick lasts before.now (words piece.now) ≡ Ok rule) }
     ensures fault { IfErr result (IsFaultOf (rule_beside ports.now tick lasts before.now (words piece.now))) }
 {
-    let place = before.len() as u64 + 1;
+    let place = before.len() as u32 + 1;
     if before.len() >= MOST_RULES {
         return Err(RuleFault::RuleText { place });
     }

@@ -139,7 +139,7 @@ pub fn fault_of(
     ports: &[PortDecl],
     tick: u64,
     lasts: u128,
-    place: u64,
+    place: u32,
     rule: &SpelledRule<'_>,
 ) -> Option<RuleFault>
     requires { is_spellable (rule_of rule.now) ≡ true }

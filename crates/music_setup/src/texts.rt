@@ -74,26 +74,28 @@ fn at_place(alloc: Global, what: &[u8], place: u64, kind: &[u8]) -> Result<Vec<u
 fn port_text(alloc: Global, fault: PortFault) -> Result<Vec<u8>, NoMemory>
     ensures { IfOk result (λ text. text.items ≡ port_text fault) }
 {
-    match fault {
-        PortFault::PortText { place } => at_place(alloc, b"port ", place, b"PortText"),
-        PortFault::MapRepeated { place, .. } => at_place(alloc, b"port ", place, b"MapRepeated"),
-        PortFault::OutputTwice { place, .. } => at_place(alloc, b"port ", place, b"OutputTwice"),
-        PortFault::Memory => Ok(Vec::new(alloc)),
-    }
+    let (place, kind): (u32, &'static [u8]) = match fault {
+        PortFault::PortText { place } => (place, b"PortText"),
+        PortFault::MapRepeated { place, .. } => (place, b"MapRepeated"),
+        PortFault::OutputTwice { place, .. } => (place, b"OutputTwice"),
+        PortFault::Memory => return Ok(Vec::new(alloc)),
+    };
+    at_place(alloc, b"port ", u64::from(place), kind)
 }
 
 #[tactic(auto, unfolding(crate::specs::Texts::rule_text))]
 fn rule_text(alloc: Global, fault: RuleFault) -> Result<Vec<u8>, NoMemory>
     ensures { IfOk result (λ text. text.items ≡ rule_text fault) }
 {
-    match fault {
-        RuleFault::RuleText { place } => at_place(alloc, b"rule ", place, b"RuleText"),
-        RuleFault::RulePort { place } => at_place(alloc, b"rule ", place, b"RulePort"),
-        RuleFault::RuleIndex { place } => at_place(alloc, b"rule ", place, b"RuleIndex"),
-        RuleFault::RuleAfter { place } => at_place(alloc, b"rule ", place, b"RuleAfter"),
-        RuleFault::RuleRate { place } => at_place(alloc, b"rule ", place, b"RuleRate"),
-        RuleFault::Memory => Ok(Vec::new(alloc)),
-    }
+    let (place, kind): (u32, &'static [u8]) = match fault {
+        RuleFault::RuleText { place } => (place, b"RuleText"),
+        RuleFault::RulePort { place } => (place, b"RulePort"),
+        RuleFault::RuleIndex { place } => (place, b"RuleIndex"),
+        RuleFault::RuleAfter { place } => (place, b"RuleAfter"),
+        RuleFault::RuleRate { place } => (place, b"RuleRate"),
+        RuleFault::Memory => return Ok(Vec::new(alloc)),
+    };
+    at_place(alloc, b"rule ", u64::from(place), kind)
 }
 
 /// What is wrong with an application.

@@ -7,11 +7,11 @@ use music_base::NoMemory;
 #[derive(Clone, Copy, Debug, PartialEq, Eq)]
 pub enum PortFault {
     /// The declaration has not the form, has the name of an earlier one, or is one too many.
-    PortText { place: u64 },
+    PortText { place: u32 },
     /// The list of some rank has an index twice: the one that `permutation` names for the first such rank.
-    MapRepeated { place: u64, index: u32 },
+    MapRepeated { place: u32, index: u32 },
     /// Two ranks of an output map the same index: the least such index.
-    OutputTwice { place: u64, index: u32 },
+    OutputTwice { place: u32, index: u32 },
     /// Memory was asked for and not found.
     Memory,
 }

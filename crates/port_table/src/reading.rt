@@ -61,7 +61,7 @@ fn output_twice(alloc: Global, direction: Direction, map: &PortMap) -> Result<Op
 fn faultless_map(
     alloc: Global,
     np: u32,
-    place: u64,
+    place: u32,
     parts: &PortParts<'_>,
 ) -> Result<PortMap, PortFault>
     requires ranks { 1 ≤ np }
@@ -111,7 +111,7 @@ fn read_port(
     ensures port { IfOk result (λ port. port_beside np before.now (words piece.now) ≡ Ok port) }
     ensures fault { IfErr result (IsFaultOf (port_beside np before.now (words piece.now))) }
 {
-    let place = before.len() as u64 + 1;
+    let place = before.len() as u32 + 1;
     let Some(parts) = port_in(np, piece) else {
         return Err(PortFault::PortText { place });
     };
