@@ -15,12 +15,10 @@ use Rattle.config_text.proofs.OneReading.{some_reading, apart}
 use Rattle.config_text.proofs.SpelledLaws.{spelled_lawful}
 use Rattle.config_text.specs.declared.form.FirstForm.{FirstForm}
 use Rattle.config_text.specs.declared.text_kind.TextKind.{TextKind}
-use Rattle.scene_model.specs.Cover.{IsTold}
 use Rattle.scene_model.specs.Faults.{IsFaultless}
 use Rattle.scene_model.specs.Logs.{log_of}
-use Rattle.scene_model.specs.Waits.{IsAccepted, stated_limits, waits}
+use Rattle.scene_model.specs.Waits.{IsAccepted}
 use Rattle.scene_model.specs.declared.scene.Scene.{Scene}
-use Rattle.scene_model.specs.declared.wait.Wait.{Wait}
 use Rattle.scene_model.proofs.AcceptedOrTold.{accepted_is_live, accepted_or_told, not_both}
 use Rattle.cycle_check.specs.CycleTexts.{cycle_text}
 use Rattle.music_setup.specs.Scenes.{scene_of}
@@ -34,7 +32,7 @@ use Rattle.plain_run.specs.Plain as plain
 use Rattle.music_cli.specs.PlanTexts.{plan_text}
 use Rattle.music_cli.specs.Words.{command_of, are_accepted}
 use Rattle.music_cli.specs.Answers.{AnswersFault, AnswersUncovered, AnswersChecked, AnswersPlanned, AnswersScene, AnswersForm, AnswersConfig, AnswersText, AnswersCommand, Answers, CanDo, CanDoWith, number_of, status_of, outcomes_of, scene_outcomes, usage_text, read_fault_text, ok_text}
-use Rattle.music_cli.specs.Clauses.{Ends, ends, most_read, read_part, IsStatus, HasAnswer, HasPrefix, IsComplete, WasRead, IsSaid, IsGiven, IsRead, Ended, refused, unread, unfound, answered}
+use Rattle.music_cli.specs.Clauses.{Ends, ends, most_read, read_part, IsStatus, IsUsage, AnswersWhatWasRead, HasSomePrefix, HasAnswer, HasPrefix, IsComplete, IsSaid, IsGiven, IsRead, Ended, refused, unread, unfound, answered}
 use Rattle.music_cli.specs.declared.command_line.Command.{Command}
 use Rattle.music_cli.specs.declared.command_line.Command.TheVariants.{Check, Plan, Run}
 use Rattle.music_cli.specs.declared.status.Status.{Status}
@@ -373,12 +371,38 @@ is_complete words source sink status (answered yes_accepted bytes read given) co
       | inr gave_out ↦ elim gave_out [ inl fault ↦ absurd (calm_sink fault.1) | inr memory ↦ inr (ap number_of memory) ]
     ]
 
-pub was_read : (words : List (List ℕ)) (source sink : Ends) (status : Status) → Ended words source sink status → WasRead words source (number_of status)
-was_read words source sink status (refused not_so untouched said) accepted small = absurd (accepted_not_refused (are_accepted words) accepted not_so)
-was_read words source sink status (unread yes_accepted failed said) accepted small = elim said.cases [
+-- refused words get the usage line, or a prefix of it
+pub is_usage : (words : List (List ℕ)) (source sink : Ends) (status : Status) → Ended words source sink status → IsUsage words source sink (number_of status)
+is_usage words source sink status (refused not_so untouched said) not_accepted = elim said.cases [
+  | inl done ↦ (inl (ap number_of done.0, done.1), untouched)
+  | inr fault ↦ (inr (ap number_of fault.0, said.prefix), untouched)
+]
+is_usage words source sink status (unread yes_accepted failed said) not_accepted = let both : true ≡ false = sym yes_accepted ∙ not_accepted in absurd cc
+is_usage words source sink status (unfound yes_accepted memory same) not_accepted = let both : true ≡ false = sym yes_accepted ∙ not_accepted in absurd cc
+is_usage words source sink status (answered yes_accepted bytes read given) not_accepted = let both : true ≡ false = sym yes_accepted ∙ not_accepted in absurd cc
+
+-- accepted words get an answer to what was read
+pub answers_what_was_read : (words : List (List ℕ)) (source sink : Ends) (status : Status) → Ended words source sink status → AnswersWhatWasRead words source sink (number_of status)
+answers_what_was_read words source sink status (refused not_so untouched said) accepted small = absurd (accepted_not_refused (are_accepted words) accepted not_so)
+answers_what_was_read words source sink status (unread yes_accepted failed said) accepted small = elim said.cases [
   | inl done ↦ let six : number_of status ≡ 6 = ap number_of done.0 in absurd (omega (arith, six, small))
   | inr fault ↦ let seven : number_of status ≡ 7 = ap number_of fault.0 in absurd (omega (arith, seven, small))
 ]
-was_read words source sink status (unfound yes_accepted memory same) accepted small =
+answers_what_was_read words source sink status (unfound yes_accepted memory same) accepted small =
     let eight : number_of status ≡ 8 = ap number_of memory in absurd (omega (arith, eight, small))
-was_read words source sink status (answered yes_accepted bytes read given) accepted small = (bytes, read)
+answers_what_was_read words source sink status (answered yes_accepted bytes read given) accepted small = elim given.cases [
+  | inl done ↦ (bytes, read, given.status, given.text, ap number_of done.0, given.found_so, done.1)
+  | inr gave_out ↦ elim gave_out [
+    | inl fault ↦ let seven : number_of status ≡ 7 = ap number_of fault.0 in absurd (omega (arith, seven, small))
+    | inr memory ↦ let eight : number_of status ≡ 8 = ap number_of memory in absurd (omega (arith, eight, small))
+  ]
+]
+
+-- or a prefix of one, or of the text of a read fault
+pub some_prefix : (words : List (List ℕ)) (source sink : Ends) (status : Status) → Ended words source sink status → HasSomePrefix words source sink (number_of status)
+some_prefix words source sink status (refused not_so untouched said) accepted gave_out = absurd (accepted_not_refused (are_accepted words) accepted not_so)
+some_prefix words source sink status (unread yes_accepted failed said) accepted gave_out = (read_fault_text, inr (inl (refl, failed)), said.prefix)
+some_prefix words source sink status (unfound yes_accepted memory same) accepted gave_out =
+    ([], inr (inr (refl, ap number_of memory)), subst (λ (after : Option (List ℕ)). TookPrefix sink.before [] after) (sym same) (TookPrefix-nothing sink.before []))
+some_prefix words source sink status (answered yes_accepted bytes read given) accepted gave_out =
+    (given.text, inl (bytes, read, given.status, given.found_so), given.prefix)

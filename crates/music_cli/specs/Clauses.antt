@@ -1,7 +1,8 @@
 -- What holds of each call of the program, over any source and any sink.
-use Rattle.std.specs.Prelude.{⊤, ◌≡◌, ◌≢◌, ◌⊎◌, ℕ, ◌<◌, ◌≤◌, true, false, List, length, take, Option, Some, Ok, IsTrue, Contains}
+use Rattle.std.specs.Prelude.{⊤, ◌≡◌, ◌≢◌, ◌⊎◌, ℕ, ◌<◌, ◌≤◌, ◌+◌, true, false, List, [], length, take, Option, Some, Ok, IsTrue, Contains}
 use Rattle.music_base.specs.Causes.{Rose}
 use Rattle.music_base.specs.Outside.{Gave, IsAtEnd, Took, TookPrefix}
+use Rattle.config_text.specs.Lines.{longest_text}
 use Rattle.config_text.specs.Text.{Spells}
 use Rattle.config_text.specs.declared.config.Config.{Config}
 use Rattle.scene_model.specs.declared.scene.Scene.{Scene}
@@ -43,7 +44,7 @@ WrotePrefix text sink = TookPrefix sink.before text sink.after
 
 -- how many bytes are read at most: one more than the longest text has
 abbrev pub most_read : ℕ
-most_read = 1048577
+most_read = longest_text + 1
 
 -- of the bytes that were left in the source, those that are read
 abbrev pub read_part : List ℕ → List ℕ
@@ -65,10 +66,11 @@ IsStatus words result = (status : Status) × Contains (outcomes_of (command_of w
 abbrev pub NotUsage : List (List ℕ) → ℕ → Type 0
 NotUsage words result = IsTrue (are_accepted words) → result ≢ number_of Usage
 
--- refused words get the usage line and its status, or that of a write fault, and leave the source untouched
+-- refused words get the usage line and its status, or a prefix of it and that of a write fault, and leave the source
+-- untouched
 abbrev pub IsUsage : List (List ℕ) → Ends → Ends → ℕ → Type 0
 IsUsage words source sink result = are_accepted words ≡ false →
-    (((result ≡ number_of Usage) × Wrote usage_text sink) ⊎ (result ≡ number_of WriteFault)) × Untouched source
+    (((result ≡ number_of Usage) × Wrote usage_text sink) ⊎ ((result ≡ number_of WriteFault) × WrotePrefix usage_text sink)) × Untouched source
 
 -- a read fault comes only to accepted words, where the source failed in this call; it is written
 abbrev pub HasReadFaultCause : List (List ℕ) → Ends → Ends → ℕ → Type 0
@@ -80,9 +82,23 @@ abbrev pub HasWriteFaultCause : Ends → ℕ → Type 0
 HasWriteFaultCause sink result = result ≡ number_of WriteFault → Failed sink
 
 -- where accepted words get a status below that of a read fault, the source was read to its end, or one byte further than
--- the longest text
-abbrev pub WasRead : List (List ℕ) → Ends → ℕ → Type 0
-WasRead words source result = IsTrue (are_accepted words) → result ≤ 5 → (bytes : List ℕ) × IsRead bytes source
+-- the longest text, and status and text are what the words and these bytes get
+abbrev pub AnswersWhatWasRead : List (List ℕ) → Ends → Ends → ℕ → Type 0
+AnswersWhatWasRead words source sink result = IsTrue (are_accepted words) → result ≤ 5 →
+    (bytes : List ℕ) × IsRead bytes source × (status : Status) × (text : List ℕ) × (result ≡ number_of status) × Answers words bytes status text × Wrote text sink
+
+-- the text of an answer to these words and bytes that were read of the source, that of a read fault where the source
+-- failed, and none where memory gave out
+abbrev pub IsSomeText : List (List ℕ) → Ends → ℕ → List ℕ → Type 0
+IsSomeText words source result text =
+    ((bytes : List ℕ) × IsRead bytes source × (status : Status) × Answers words bytes status text)
+    ⊎ ((text ≡ read_fault_text) × Failed source)
+    ⊎ ((text ≡ []) × (result ≡ number_of NoMemory))
+
+-- where writing or memory gave out after accepted words, the sink took a prefix of such a text
+abbrev pub HasSomePrefix : List (List ℕ) → Ends → Ends → ℕ → Type 0
+HasSomePrefix words source sink result = IsTrue (are_accepted words) → ((result ≡ number_of WriteFault) ⊎ (result ≡ number_of NoMemory)) →
+    (text : List ℕ) × IsSomeText words source result text × WrotePrefix text sink
 
 -- ---- clauses where the source tells its bytes
 

@@ -2,18 +2,19 @@
 ghost use Rattle.std.specs.Prelude.{◌≡◌, ℕ, List, Some};
 ghost use Rattle.music_cli.specs.Words.{command_of, texts};
 ghost use Rattle.music_cli.specs.Clauses.{
+  AnswersWhatWasRead,
   ends,
   Ended,
   HasAnswer,
   HasPrefix,
   HasReadFaultCause,
+  HasSomePrefix,
   HasWriteFaultCause,
   IsComplete,
   IsLiveWhenDone,
   IsStatus,
   IsUsage,
   NotUsage,
-  WasRead,
 };
 
 use crate::answering::answer_text;
@@ -87,8 +88,12 @@ pub fn music_alone<S: Source, K: Sink>(
         (ends (K.taken sink.old) (K.taken sink.new) (K.faults sink.old) (K.faults sink.new)) result }
     ensures cause_of_a_write_fault { HasWriteFaultCause
         (ends (K.taken sink.old) (K.taken sink.new) (K.faults sink.old) (K.faults sink.new)) result }
-    ensures what_was_read_of_the_source { WasRead (texts words.now.items)
-        (ends (S.left source.old) (S.left source.new) (S.faults source.old) (S.faults source.new)) result }
+    ensures answers_what_was_read { AnswersWhatWasRead (texts words.now.items)
+        (ends (S.left source.old) (S.left source.new) (S.faults source.old) (S.faults source.new))
+        (ends (K.taken sink.old) (K.taken sink.new) (K.faults sink.old) (K.faults sink.new)) result }
+    ensures some_prefix { HasSomePrefix (texts words.now.items)
+        (ends (S.left source.old) (S.left source.new) (S.faults source.old) (S.faults source.new))
+        (ends (K.taken sink.old) (K.taken sink.new) (K.faults sink.old) (K.faults sink.new)) result }
 
     // where the source tells its bytes
     ensures answers { HasAnswer (texts words.now.items)
@@ -129,8 +134,12 @@ pub fn music<R: Threads + Wait + Sync, S: Source, K: Sink, G: Gate>(
         (ends (K.taken sink.old) (K.taken sink.new) (K.faults sink.old) (K.faults sink.new)) result }
     ensures cause_of_a_write_fault { HasWriteFaultCause
         (ends (K.taken sink.old) (K.taken sink.new) (K.faults sink.old) (K.faults sink.new)) result }
-    ensures what_was_read_of_the_source { WasRead (texts words.now.items)
-        (ends (S.left source.old) (S.left source.new) (S.faults source.old) (S.faults source.new)) result }
+    ensures answers_what_was_read { AnswersWhatWasRead (texts words.now.items)
+        (ends (S.left source.old) (S.left source.new) (S.faults source.old) (S.faults source.new))
+        (ends (K.taken sink.old) (K.taken sink.new) (K.faults sink.old) (K.faults sink.new)) result }
+    ensures some_prefix { HasSomePrefix (texts words.now.items)
+        (ends (S.left source.old) (S.left source.new) (S.faults source.old) (S.faults source.new))
+        (ends (K.taken sink.old) (K.taken sink.new) (K.faults sink.old) (K.faults sink.new)) result }
 
     // where the source tells its bytes
     ensures answers { HasAnswer (texts words.now.items)
