@@ -8,9 +8,13 @@ mod config_texts;
 #[cfg(test)]
 mod copies;
 #[cfg(test)]
+mod cycles;
+#[cfg(test)]
 mod maps;
 #[cfg(test)]
 mod plans;
+#[cfg(test)]
+mod setups;
 #[cfg(test)]
 mod standard_ends;
 #[cfg(test)]

@@ -10,7 +10,7 @@ use std::alloc::Global;
 use tick_plan::{NegotiateFault, Plan, negotiate, plan_fits};
 
 /// Events may come five ticks late over the second connection.
-const TWO_LATENCIES: &[u8] = b"stoptime=0.01
+pub const TWO_LATENCIES: &[u8] = b"stoptime=0.01
 binary=script
 timestep=0.001
 [gen]
@@ -34,7 +34,7 @@ gen.b -> sink.q
 ";
 
 /// The same, where it states too few.
-const LITTLE_ROOM: &[u8] = b"stoptime=0.01
+pub const LITTLE_ROOM: &[u8] = b"stoptime=0.01
 binary=script
 timestep=0.001
 [gen]
@@ -45,7 +45,7 @@ gen.a -> sink.p
 gen.b -> sink.q
 ";
 
-fn scene_of(alloc: Global, text: &[u8]) -> Result<Scene, SetupFault>
+pub fn scene_of(alloc: Global, text: &[u8]) -> Result<Scene, SetupFault>
     ensures { IfOk result (λ scene. IsFaultless scene) }
 {
     let Ok(config) = read_config(alloc, text) else {
