@@ -76,6 +76,8 @@ fn runs_for(stop: Nanos, tick: Nanos) -> u128
 /// the 1,025th; a port that it names is absent or of another direction or kind; an index that it states is mapped by no
 /// rank of its port; d is not less than the tick; t is 0, or the run, which lasts the number of steps times the tick,
 /// holds it more than 1,000,000 times.
+///
+/// The tick is at least 1 ns, and no two ports have one name.
 pub fn read_rules(
     alloc: Global,
     text: &Word,

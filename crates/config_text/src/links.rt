@@ -65,7 +65,8 @@ impl Links {
         self.items.as_slice()
     }
 
-    /// Appends a connection. Where memory is wanting the list stays as it was.
+    /// Appends a connection, where there are fewer than 64. Its width is not stated, or 1 to 65,536. Where memory is
+    /// wanting the list stays as it was.
     pub fn push(&mut self, link: LinkText) -> Result<(), NoMemory>
         requires width { is_width link.width ≡ true }
         requires room { length self.old < 64 }

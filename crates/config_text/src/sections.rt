@@ -58,7 +58,7 @@ impl Sections {
         self.entries.contains_key(name)
     }
 
-    /// The name and the settings at a place, from 0.
+    /// The name and the settings at a place, from 0, at which a section stands.
     pub fn pair_at(&self, place: usize) -> (&Name, &Settings)
         requires { place < length self.now }
         ensures { slice_get self.now place ≡ Some (result.0.now, result.1.now) }
@@ -79,7 +79,8 @@ impl Sections {
         }
     }
 
-    /// Appends a section of a new name. Where memory is wanting the sections stay as they were.
+    /// Appends a section of a new name, where there are fewer than 32. Where memory is wanting the sections stay as they
+    /// were.
     pub fn push(&mut self, name: Name, settings: Settings) -> Result<(), NoMemory>
         requires absent { value_of self.old name ≡ None }
         requires room { length self.old < 32 }
@@ -93,7 +94,8 @@ impl Sections {
         Ok(())
     }
 
-    /// Appends a setting of a new name to the last section. Where memory is wanting the sections stay as they were.
+    /// Appends a setting of a new name to the last section, where there is one. The value is one that `is_value` finds to
+    /// be one. Where memory is wanting the sections stay as they were.
     pub fn push_setting(&mut self, name: Name, value: Word) -> Result<(), NoMemory>
         requires some { 0 < length self.old }
         requires value { is_value value ≡ true }

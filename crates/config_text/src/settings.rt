@@ -65,7 +65,7 @@ impl Settings {
         self.entries.get(name)
     }
 
-    /// The name and the value at a place, from 0.
+    /// The name and the value at a place, from 0, at which a setting stands.
     pub fn pair_at(&self, place: usize) -> (&Name, &Word)
         requires { place < length self.now }
         ensures { slice_get self.now place ≡ Some (result.0.now, result.1.now) }
@@ -76,7 +76,8 @@ impl Settings {
         }
     }
 
-    /// Appends a setting of a new name. Where memory is wanting the settings stay as they were.
+    /// Appends a setting of a new name, with a value that `is_value` finds to be one. Where memory is wanting the settings
+    /// stay as they were.
     pub fn push(&mut self, name: Name, value: Word) -> Result<(), NoMemory>
         requires absent { value_of self.old name ≡ None }
         requires value { is_value value ≡ true }

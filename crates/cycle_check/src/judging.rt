@@ -54,6 +54,9 @@ fn are_among(all: &[Wait], waits: &[Wait]) -> bool
 
 /// Whether a cycle of these waits is not covered: it is a cycle, each of its waits is one of these, and the sum of its
 /// allowances is not above the sum of its burdens.
+///
+/// The cycle has at most 64 waits, and their allowances and burdens lie within 10^30 ns of zero. The waits that are given
+/// may be any.
 pub fn is_uncovered(waits: &[Wait], cycle: &Cycle) -> bool
     requires bounded { All IsBounded cycle.now.0.items }
     requires short { length cycle.now.0.items ≤ most_waits }

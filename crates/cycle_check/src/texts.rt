@@ -84,6 +84,9 @@ fn push_sums(text: &mut Vec<u8>, waits: &[Wait]) -> Result<(), NoMemory>
 
 /// The text of a cycle that is not covered: a head, a line for each wait with its names, its connection, counted from 1,
 /// what is waited for, its allowance and its burden, both in ns, and a line of the two sums.
+///
+/// Each wait is between applications of the scene, its allowance and its burden lie within 10^30 ns of zero, and there
+/// are at most 64 waits.
 pub fn write_cycle(alloc: Global, scene: &Scene, cycle: &Cycle) -> Result<Vec<u8>, NoMemory>
     requires between { All (IsBetween (length scene.now.apps)) cycle.now.0.items }
     requires bounded { All IsBounded cycle.now.0.items }

@@ -40,6 +40,8 @@ fn part_of(span: Span, ranks: u32, rank: u32) -> Span
 impl PortMap {
     /// What a rank of the port maps. In a split it is the part of the span from `rank * size / ranks` up to
     /// `(rank + 1) * size / ranks`, each rounded down, the latter excluded.
+    ///
+    /// The rank is one of the port's.
     pub fn rank_map(&self, rank: Rank) -> RankMap<'_>
         requires { rank < rank_count self.now }
         ensures { mapped result ≡ globals_of self.now rank }

@@ -35,6 +35,7 @@ fn is_between(first: u32, after: u32, index: u32) -> bool
 
 impl Span {
     /// The indices from `base` up to `base + size`, the latter excluded.
+    /// They are below the limit: `base + size` is at most 65,536.
     pub fn new(base: u32, size: u32) -> Span
         requires { base + size ≤ INDEX_LIMIT }
         ensures base { result.base ≡ base }

@@ -73,6 +73,8 @@ fn stated_limit(scene: &Scene, link: LinkId) -> Option<u64>
 /// It is counted in ticks of the sender. Ticks that the input states are taken as so many whole ticks of the sender as
 /// their time holds, and where both ends state some, the lesser number counts. A limit is at least 1, and one above
 /// `GREATEST_LIMIT` is taken as that.
+///
+/// The scene has no fault.
 pub fn stated_limits(alloc: Global, scene: &Scene) -> Result<Vec<Option<u64>>, NoMemory>
     requires { IsFaultless scene.now }
     ensures limits { IfOk result (λ limits. limits.items ≡ stated_limits scene.now) }

@@ -52,6 +52,8 @@ fn room_allowance(limit: u64, send_tick: Nanos, receive_tick: Nanos, rounded: i1
 }
 
 /// The wait of the connection's sender for room, where at most so many blocks are kept.
+///
+/// The scene has no fault, the connection is one of its own, and the limit is at most `GREATEST_LIMIT`.
 pub fn room_wait(scene: &Scene, link: LinkId, limit: u64) -> Wait
     requires scene { IsFaultless scene.now }
     requires link { link < length scene.now.links }
@@ -94,6 +96,7 @@ fn push_waits(
 /// connection has a limit, the sender for room.
 ///
 /// There is one limit for each connection, at least 1 and at most `GREATEST_LIMIT`, or none.
+/// The scene has no fault.
 pub fn waits(alloc: Global, scene: &Scene, limits: &[Option<u64>]) -> Result<Vec<Wait>, NoMemory>
     requires scene { IsFaultless scene.now }
     requires counted { length limits.now ≡ length scene.now.links }

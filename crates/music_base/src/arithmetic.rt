@@ -14,6 +14,7 @@ fn common_divisor(a: u64, b: u64) -> u64
 }
 
 /// The greatest span of which both are whole multiples.
+/// Both are at least 1 ns.
 pub fn gcd(a: Nanos, b: Nanos) -> Nanos
     requires a { 1 ≤ a }
     requires b { 1 ≤ b }
@@ -25,6 +26,7 @@ pub fn gcd(a: Nanos, b: Nanos) -> Nanos
 }
 
 /// The greatest multiple of `g` that is at most `x`: below zero too it rounds down, and never toward zero.
+/// `g` is at least 1, and `x` lies within 10^20 of zero.
 pub fn floor_to(g: Nanos, x: i128) -> i128
     requires g { 1 ≤ g }
     requires x { unsigned_abs x ≤ 10 ^ 20 }

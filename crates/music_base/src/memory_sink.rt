@@ -36,7 +36,8 @@ fn count_taken(piece: u64, offered: usize, room: usize) -> usize
 }
 
 impl MemorySink {
-    /// A sink with room for so many bytes, which takes at most `piece` of them in one call.
+    /// A sink with room for so many bytes, which takes at most `piece` of them in one call. The room is at most
+    /// 10^9 bytes, and `piece` is at least 1.
     pub fn make(alloc: Global, piece: u64, room: u64) -> Result<MemorySink, NoMemory>
         requires piece { 1 ≤ piece }
         requires room { room ≤ 10 ^ 9 }

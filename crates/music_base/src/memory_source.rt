@@ -31,6 +31,7 @@ impl Model for MemorySource {
 impl MemorySource {
     /// A source of these bytes, which gives at most `piece` of them in one call and fails the calls whose numbers, from
     /// 1, are listed. It takes no memory.
+    /// `piece` is at least 1.
     pub fn make(bytes: Vec<u8>, piece: u64, fails: Vec<u64>) -> MemorySource
         requires { 1 ≤ piece }
         ensures { result ≡ record { left = bytes.items; piece = piece; fails = fails.items; calls = 0; faults = 0 } }

@@ -24,6 +24,7 @@ pub enum ReadFault {
 
 /// Answers all the bytes that the source had left, or the first `most` where it had more. Fewer than `most` bytes were
 /// thus all of them. Each read takes at least one byte or is the last.
+/// At most `MOST_READ` bytes may be asked for.
 pub fn read_all<S: Source>(alloc: Global, source: &mut S, most: u64) -> Result<Vec<u8>, ReadFault>
     requires { most ≤ MOST_READ }
     ensures read { IfOk result (λ bytes. Gave (S.left source.old) bytes.items (S.left source.new)) }

@@ -31,6 +31,8 @@ fn multiples_before(end: u128, tick: u64, sent: u64) -> u64
 
 /// How many of the sender's blocks below `sent` a step of the receiver wants: those whose begin, `k * send_tick`, lies
 /// with the allowance added before the step's end, `(step + 1) * receive_tick`. They are the blocks below the answer.
+///
+/// Both ticks are 1 to 10^12 ns, the allowance lies within 10^16 ns of zero, and `sent` and `step` are at most 1,000,000.
 pub fn wanted(send_tick: Nanos, allowance: i128, receive_tick: Nanos, sent: u64, step: u64) -> u64
     requires send_tick { (1 ≤ send_tick) × (send_tick ≤ 10 ^ 12) }
     requires allowance { unsigned_abs allowance ≤ 10 ^ 16 }

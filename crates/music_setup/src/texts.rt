@@ -179,8 +179,9 @@ fn link_text(alloc: Global, link: LinkId, kind: LinkKind) -> Result<Vec<u8>, NoM
 
 /// The text of a fault: one line with its end, and of a cycle a head, a line for each wait, and a line of the two sums.
 /// Lines, ports, rules and connections are counted from 1, and an application is named as its section in the
-/// configuration is. It has to stand there, and the fault may not be want of memory. The numbers of a cycle are within
-/// 10^30 of zero, and it has at most 64 waits.
+/// configuration is. It has to stand there, and neither the fault nor a fault of ports or rules in it may be want of memory.
+/// The waits of a cycle are between applications that stand there, their numbers are within 10^30 of zero, and there are
+/// at most 64.
 #[tactic(auto, unfolding(crate::specs::Texts::text_of_fault))]
 pub fn fault_text(
     alloc: Global,

@@ -90,6 +90,8 @@ fn row_of(form: &FirstForm, time: Nanos) -> Row
 /// index the sink maps and that is due in a step that the sink runs, in the order of the times.
 ///
 /// It takes time and memory for these rows alone. Times and clocks are in ns.
+///
+/// The numbers of the form are within their limits, as those of each form are that a text has.
 pub fn plain_rows(alloc: Global, form: &FirstForm) -> Result<Items<Row>, NoMemory>
     requires { IsLawfulForm form.now }
     ensures history { IfOk result (λ list. list ≡ rows (scene_of form.now) (history (scene_of form.now))) }

@@ -98,6 +98,8 @@ fn sink(alloc: Global, form: &FirstForm) -> Result<AppDecl, NoMemory>
 
 /// The scene that a first form stands for: the source, which emits by its one rule, the sink, and the connection from
 /// the one's output to the other's input, at which no latency is stated.
+///
+/// The numbers of the form are within their limits, as those of each form are that a text has.
 #[tactic(auto, unfolding(crate::specs::Plain::scene_of))]
 pub fn scene_of(alloc: Global, form: &FirstForm) -> Result<Scene, NoMemory>
     requires { IsLawfulForm form.now }

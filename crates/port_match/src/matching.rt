@@ -74,6 +74,8 @@ fn read_link(
 /// the ports differ in kind; a port maps an index that is not below the stated width; a continuous input maps an index
 /// that the output does not; an earlier connection joins the same two ports, or goes to the same continuous input. An
 /// output may feed many inputs, many outputs may feed an event or a message input, and a port may have no connection.
+///
+/// There are at most 32 applications, each of at most 64 ports, and at most 64 connections.
 pub fn match_links(
     alloc: Global,
     apps: &[AppDecl],

@@ -130,6 +130,8 @@ fn read_port(
 /// `split:B+N`, or for each rank `B+N` or a list of indices joined by commas, the ranks joined by `/`. The first
 /// declaration that is faulty is the fault, by its place from 1: `PortText` where it has not this form, has the name of
 /// an earlier one or is the 65th, then `MapRepeated`, then `OutputTwice`.
+///
+/// There are 1 to 64 processes.
 #[tactic(auto, using(crate::proofs::LawfulPorts::ports_differ))]
 pub fn read_ports(alloc: Global, text: &Word, np: u32) -> Result<Items<PortDecl>, PortFault>
     requires least { 1 ≤ np }

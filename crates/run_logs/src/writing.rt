@@ -67,8 +67,9 @@ fn write_lines<K: Sink>(
     Ok(())
 }
 
-/// Writes the header and the lines of the rows. Each row has to be one that the scene can name. Where the sink fails, or
-/// memory gives out, a prefix of the text was taken, and no further write is tried.
+/// Writes the header and the lines of the rows. Each row is of a port of the scene, and a message's word is a word as
+/// rules state it. Where the sink fails, or memory gives out, a prefix of the text was taken, and no further write is
+/// tried.
 #[tactic(auto, unfolding(scene_model::specs::Logs::text_of))]
 pub fn write_rows<K: Sink>(
     alloc: Global,

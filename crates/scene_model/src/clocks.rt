@@ -24,6 +24,8 @@ fn allowance_by(input: &PortDecl, send_tick: Nanos, receive_tick: Nanos) -> i128
 ///
 /// It is the latency of an event or message input. A continuous input has its delay and the receiver's tick, less the
 /// sender's tick where it interpolates, and less 1 ns where it holds values.
+///
+/// The scene has no fault, and the connection is one of its own.
 pub fn allowance_of(scene: &Scene, link: LinkId) -> i128
     requires scene { IsFaultless scene.now }
     requires link { link < length scene.now.links }
@@ -36,6 +38,8 @@ pub fn allowance_of(scene: &Scene, link: LinkId) -> i128
 }
 
 /// How many of the connection's blocks some step of the receiver wants. They are the first ones.
+///
+/// The scene has no fault, and the connection is one of its own.
 pub fn wanted_blocks(scene: &Scene, link: LinkId) -> u64
     requires scene { IsFaultless scene.now }
     requires link { link < length scene.now.links }

@@ -6,7 +6,7 @@ impl AppDecl {
     ghost use Rattle.std.specs.Prelude.{◌≡◌, ◌<◌, length, slice_index_or};
     ghost use Rattle.scene_model.specs.Scenes.{no_port};
 
-    /// The port at a place.
+    /// The port at a place, at which one stands.
     pub fn port(&self, port: PortId) -> &PortDecl
         requires { port < length self.now.ports }
         ensures { result.now ≡ slice_index_or self.now.ports port no_port }
@@ -20,7 +20,7 @@ impl Scene {
     ghost use Rattle.scene_model.specs.Faults.{IsFaultless};
     ghost use Rattle.scene_model.specs.Scenes.{app_at, input_of, link_at, output_of, receiver, sender};
 
-    /// The application at a place.
+    /// The application at a place, at which one stands.
     pub fn app(&self, app: AppId) -> &AppDecl
         requires { app < length self.now.apps }
         ensures { result.now ≡ app_at self.now app }
@@ -28,7 +28,7 @@ impl Scene {
         &self.apps.as_slice()[app.0 as usize]
     }
 
-    /// The connection at a place.
+    /// The connection at a place, at which one stands.
     pub fn link(&self, link: LinkId) -> Link
         requires { link < length self.now.links }
         ensures { result ≡ link_at self.now link }
@@ -36,7 +36,7 @@ impl Scene {
         self.links.as_slice()[link.0 as usize]
     }
 
-    /// The application that sends on a connection.
+    /// The application that sends on a connection of a scene without a fault.
     pub fn sender_of(&self, link: LinkId) -> &AppDecl
         requires scene { IsFaultless self.now }
         requires link { link < length self.now.links }
@@ -45,7 +45,7 @@ impl Scene {
         self.app(self.link(link).from_app)
     }
 
-    /// The application that receives on a connection.
+    /// The application that receives on a connection of a scene without a fault.
     pub fn receiver_of(&self, link: LinkId) -> &AppDecl
         requires scene { IsFaultless self.now }
         requires link { link < length self.now.links }
@@ -54,7 +54,7 @@ impl Scene {
         self.app(self.link(link).to_app)
     }
 
-    /// The output that a connection begins at.
+    /// The output that a connection of a scene without a fault begins at.
     pub fn output_of(&self, link: LinkId) -> &PortDecl
         requires scene { IsFaultless self.now }
         requires link { link < length self.now.links }
@@ -63,7 +63,7 @@ impl Scene {
         self.sender_of(link).port(self.link(link).from_port)
     }
 
-    /// The input that a connection leads to.
+    /// The input that a connection of a scene without a fault leads to.
     pub fn input_of(&self, link: LinkId) -> &PortDecl
         requires scene { IsFaultless self.now }
         requires link { link < length self.now.links }
