@@ -4,16 +4,16 @@ ghost use Rattle.std.specs.Int.RustNames.{unsigned_abs};
 ghost use Rattle.scene_model.specs.Clocks.{allowance, tick};
 ghost use Rattle.scene_model.specs.Faults.{IsFaultless};
 ghost use Rattle.scene_model.specs.Scenes.{receiver};
-ghost use Rattle.scene_model.specs.Waits.{grain, rounded};
+ghost use Rattle.scene_model.specs.Waits.{common_divisor, rounded};
 
 use music_base::{LinkId, Nanos, floor_to, gcd};
 use scene_model::{Scene, allowance_of};
 
 /// What the ticks at both ends of the connection are multiples of.
-pub(crate) fn grain(scene: &Scene, link: LinkId) -> Nanos
+pub(crate) fn common_divisor(scene: &Scene, link: LinkId) -> Nanos
     requires scene { IsFaultless scene.now }
     requires link { link < length scene.now.links }
-    ensures value { result ≡ grain scene.now link }
+    ensures value { result ≡ common_divisor scene.now link }
     ensures some { 1 ≤ result }
     ensures within { result ≤ tick scene.now (receiver scene.now link) }
 {
@@ -27,7 +27,7 @@ pub(crate) fn rounded_allowance(scene: &Scene, link: LinkId) -> i128
     ensures value { result ≡ rounded scene.now link }
     ensures near { unsigned_abs result ≤ 10 ^ 16 }
 {
-    let grain = grain(scene, link);
+    let common_divisor = common_divisor(scene, link);
     let allowance = allowance_of(scene, link);
-    floor_to(grain, allowance)
+    floor_to(common_divisor, allowance)
 }

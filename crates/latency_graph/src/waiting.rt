@@ -7,7 +7,7 @@ ghost use Rattle.scene_model.specs.Faults.{IsFaultless};
 ghost use Rattle.scene_model.specs.Limits.{longest_tick};
 ghost use Rattle.scene_model.specs.Waits.{IsLawfulLimit, block_wait, greatest_limit, room_wait, waits, waits_of};
 
-use crate::rounded::{grain, rounded_allowance};
+use crate::rounded::{common_divisor, rounded_allowance};
 use crate::{Wait, WaitKind};
 use music_base::{LinkId, Nanos, NoMemory};
 use scene_model::Scene;
@@ -34,7 +34,7 @@ fn block_wait(scene: &Scene, link: LinkId) -> Wait
         link,
         kind: WaitKind::ForBlock,
         allowance: rounded_allowance(scene, link),
-        burden: time_beyond(tick, grain(scene, link)),
+        burden: time_beyond(tick, common_divisor(scene, link)),
     }
 }
 

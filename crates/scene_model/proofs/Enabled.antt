@@ -13,7 +13,7 @@ use Rattle.scene_model.specs.declared.act.Act.TheVariants.{Take, Run, Put}
 use Rattle.scene_model.specs.Clocks.{tick, steps, run_time, allowance, wanted, wanted_blocks}
 use Rattle.scene_model.specs.Scenes.{sender, receiver}
 use Rattle.scene_model.specs.Cover.{potential}
-use Rattle.scene_model.specs.Waits.{grain, rounded, block_wait, room_wait}
+use Rattle.scene_model.specs.Waits.{common_divisor, rounded, block_wait, room_wait}
 use Rattle.scene_model.specs.WellFormed.{IsWellFormed}
 use Rattle.scene_model.specs.Orders.{Counts, run_by, put_on, taken_from, IsSoundOn, IsSound, IsFinished, AllFinished, SomeAllowed, IsLive, after_all, opening_counts}
 use Rattle.scene_model.proofs.Searching.{search_below}
@@ -39,18 +39,18 @@ abbrev SomeLess : Scene → List ℤ → Counts → ℕ → Type 0
 SomeLess scene potentials s a = (b : ℕ) × IsUnfinished scene s b × (value_of scene potentials s b <ℤ value_of scene potentials s a)
 
 module _ (scene : Scene) (ok : IsWellFormed scene) where
-  divides : (c : ℕ) → IsGcd (tick scene (sender scene c)) (tick scene (receiver scene c)) (grain scene c)
+  divides : (c : ℕ) → IsGcd (tick scene (sender scene c)) (tick scene (receiver scene c)) (common_divisor scene c)
   divides c = gcd-divides (tick scene (sender scene c)) (tick scene (receiver scene c))
 
-  grain-some : (c : ℕ) → c < length scene.links → 0 < grain scene c
-  grain-some c link = pos_of_dvd_of_pos (divides c).0 (let t = ok.ticks (sender scene c) (ok.senders c link) in omega arith)
+  common_divisor-some : (c : ℕ) → c < length scene.links → 0 < common_divisor scene c
+  common_divisor-some c link = pos_of_dvd_of_pos (divides c).0 (let t = ok.ticks (sender scene c) (ok.senders c link) in omega arith)
 
   -- both ticks are multiples
-  sends : (c : ℕ) → tick scene (sender scene c) / grain scene c * grain scene c ≡ tick scene (sender scene c)
-  sends c = div-mul_cancel (grain scene c) (divides c).0
+  sends : (c : ℕ) → tick scene (sender scene c) / common_divisor scene c * common_divisor scene c ≡ tick scene (sender scene c)
+  sends c = div-mul_cancel (common_divisor scene c) (divides c).0
 
-  receives : (c : ℕ) → tick scene (receiver scene c) / grain scene c * grain scene c ≡ tick scene (receiver scene c)
-  receives c = div-mul_cancel (grain scene c) (divides c).1
+  receives : (c : ℕ) → tick scene (receiver scene c) / common_divisor scene c * common_divisor scene c ≡ tick scene (receiver scene c)
+  receives c = div-mul_cancel (common_divisor scene c) (divides c).1
 
 module _ (scene : Scene) (ok : IsWellFormed scene) (limits : List ℕ) (potentials : List ℤ) (passes : EachPasses scene limits potentials) (s : Counts) (sound : IsSound scene limits s) where
   -- the sender of connection c has put all blocks of its steps, and the receiver lacks the next one
@@ -64,7 +64,7 @@ module _ (scene : Scene) (ok : IsWellFormed scene) (limits : List ℕ) (potentia
           let wants : (pos (run_time scene (sender scene c) (run_by s (sender scene c))) +ℤ allowance scene c) <ℤ pos (run_time scene (receiver scene c) (suc (run_by s (receiver scene c)))) =
           rw all at (below_wanted scene c (run_by s (receiver scene c)) (put_on s c) lacking) in
           less_value (length scene.apps) (run_time scene (sender scene c) (run_by s (sender scene c))) (run_time scene (receiver scene c) (run_by s (receiver scene c))) _ _ _
-          (block_apart (grain scene c) _ _ _ _ (run_by s (sender scene c)) (run_by s (receiver scene c)) (allowance scene c) (grain-some scene ok c link) (sends scene ok c) (receives scene ok c) wants)
+          (block_apart (common_divisor scene c) _ _ _ _ (run_by s (sender scene c)) (run_by s (receiver scene c)) (allowance scene c) (common_divisor-some scene ok c link) (sends scene ok c) (receives scene ok c) wants)
           (passes.block c link)
 
   -- connection c is full, and its receiver does not want the oldest block yet
@@ -77,7 +77,7 @@ module _ (scene : Scene) (ok : IsWellFormed scene) (limits : List ℕ) (potentia
       runs = omega arith
 
       apart : (pos (run_time scene (receiver scene c) (run_by s (receiver scene c))) +ℤ ((pos ((slice_index limits c + 1) * tick scene (sender scene c) + tick scene (receiver scene c)) -ℤ rounded scene c) -ℤ pos 0)) ≤ℤ pos ((taken_from s c + slice_index limits c + 1) * tick scene (sender scene c))
-      apart = room_apart (grain scene c) _ _ _ _ (taken_from s c) (slice_index limits c) (run_by s (receiver scene c)) (allowance scene c) (grain-some scene ok c link) (sends scene ok c) (receives scene ok c) (past_wanted scene c (run_by s (receiver scene c)) (taken_from s c) there unwanted)
+      apart = room_apart (common_divisor scene c) _ _ _ _ (taken_from s c) (slice_index limits c) (run_by s (receiver scene c)) (allowance scene c) (common_divisor-some scene ok c link) (sends scene ok c) (receives scene ok c) (past_wanted scene c (run_by s (receiver scene c)) (taken_from s c) there unwanted)
 
       less : value_of scene potentials s (receiver scene c) <ℤ value_of scene potentials s (sender scene c)
       less = less_value (length scene.apps) (run_time scene (receiver scene c) (run_by s (receiver scene c))) (run_time scene (sender scene c) (run_by s (sender scene c))) _ _ _ (rw runs at apart) (passes.room c link)

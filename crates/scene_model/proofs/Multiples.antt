@@ -59,16 +59,16 @@ rounded_above g x y z some le = by_lt_z (pos (x * g) +ℤ floor_to g z) (pos (y 
 
 -- ---- clocks
 
-in_grains : (g q tick k : ℕ) → q * g ≡ tick → k * tick ≡ (k * q) * g
-in_grains g q tick k e = rw (← e) (sym (mul_assoc k q g))
+in_divisors : (g q tick k : ℕ) → q * g ≡ tick → k * tick ≡ (k * q) * g
+in_divisors g q tick k e = rw (← e) (sym (mul_assoc k q g))
 
 -- Where block k, which the sender has not made, is wanted by step j, the receiver's clock is ahead of the sender's by the
 -- rounded allowance less the burden, or more.
 pub block_apart : (g q r send receive k j : ℕ) (z : ℤ) → 0 < g → q * g ≡ send → r * g ≡ receive → (pos (k * send) +ℤ z) <ℤ pos (suc j * receive)
     → (pos (k * send) +ℤ (floor_to g z -ℤ (pos receive -ℤ pos g))) ≤ℤ pos (j * receive)
 block_apart g q r send receive k j z some sends receives lt =
-    let sent = in_grains g q send k sends in
-    let received = in_grains g r receive (suc j) receives in
+    let sent = in_divisors g q send k sends in
+    let received = in_divisors g r receive (suc j) receives in
     let m : ((pos ((k * q) * g) +ℤ floor_to g z) +ℤ pos g) ≤ℤ pos ((suc j * r) * g) = rounded_below g (k * q) (suc j * r) z some (rw (← sent, ← received) lt) in
     let n : ((pos (k * send) +ℤ floor_to g z) +ℤ pos g) ≤ℤ pos (suc j * receive) = rw (sent, received) m in
     omega (arith, ints)
@@ -78,8 +78,8 @@ block_apart g q r send receive k j z some sends receives lt =
 pub room_apart : (g q r send receive k m j : ℕ) (z : ℤ) → 0 < g → q * g ≡ send → r * g ≡ receive → pos (suc j * receive) ≤ℤ (pos (k * send) +ℤ z)
     → (pos (j * receive) +ℤ ((pos ((m + 1) * send + receive) -ℤ floor_to g z) -ℤ pos 0)) ≤ℤ pos ((k + m + 1) * send)
 room_apart g q r send receive k m j z some sends receives le =
-    let sent = in_grains g q send k sends in
-    let received = in_grains g r receive (suc j) receives in
+    let sent = in_divisors g q send k sends in
+    let received = in_divisors g r receive (suc j) receives in
     let l : pos ((suc j * r) * g) ≤ℤ (pos ((k * q) * g) +ℤ floor_to g z) = rounded_above g (k * q) (suc j * r) z some (rw (← sent, ← received) le) in
     let n : pos (suc j * receive) ≤ℤ (pos (k * send) +ℤ floor_to g z) = rw (sent, received) l in
     omega (arith, ints)

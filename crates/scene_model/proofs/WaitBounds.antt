@@ -12,22 +12,22 @@ use Rattle.scene_model.specs.Cover.{IsWithin}
 use Rattle.scene_model.specs.Faults.{IsFaultless}
 use Rattle.scene_model.specs.Limits.{longest_tick}
 use Rattle.scene_model.specs.Scenes.{receiver, sender}
-use Rattle.scene_model.specs.Waits.{IsLawfulLimit, Limits, block_wait, grain, greatest_limit, room_wait, rounded, waits}
+use Rattle.scene_model.specs.Waits.{IsLawfulLimit, Limits, block_wait, common_divisor, greatest_limit, room_wait, rounded, waits}
 use Rattle.scene_model.specs.declared.scene.Scene.{Scene}
 use Rattle.scene_model.proofs.Bounds.{IsTimed, allowance_at, timed_at}
 use Rattle.scene_model.proofs.Multiples.{floor_to-le, floor_to-near, gcd-divides}
 use Rattle.scene_model.proofs.SceneWaits.{All-waits, All-waits_of}
 
 -- what both ticks are multiples of is at most the receiver's tick
-pub record IsGrain (scene : Scene) (c : ℕ) : Type 0 where
-  pub some : 1 ≤ grain scene c
-  pub within : grain scene c ≤ tick scene (receiver scene c)
+pub record IsCommonDivisor (scene : Scene) (c : ℕ) : Type 0 where
+  pub some : 1 ≤ common_divisor scene c
+  pub within : common_divisor scene c ≤ tick scene (receiver scene c)
 
-pub grain_at : (scene : Scene) (c : ℕ) → IsTimed scene c → IsGrain scene c
-grain_at scene c timed =
+pub common_divisor_at : (scene : Scene) (c : ℕ) → IsTimed scene c → IsCommonDivisor scene c
+common_divisor_at scene c timed =
     let send = tick scene (sender scene c) in
     let receive = tick scene (receiver scene c) in
-    let divides : IsGcd send receive (grain scene c) = gcd-divides send receive in
+    let divides : IsGcd send receive (common_divisor scene c) = gcd-divides send receive in
     record { some = pos_of_dvd_of_pos divides.0 timed.sends.tick_from; within = le_of_dvd timed.receives.tick_from divides.1 }
 
 -- a rounded allowance is not far below zero, and not far above the greatest time
@@ -38,10 +38,10 @@ pub record IsRounded (x : ℤ) : Type 0 where
 pub rounded_at : (scene : Scene) (c : ℕ) → IsTimed scene c → IsRounded (rounded scene c)
 rounded_at scene c timed =
     let near = allowance_at scene c timed in
-    let g = grain_at scene c timed in
-    let le : rounded scene c ≤ℤ allowance scene c = floor_to-le (grain scene c) (allowance scene c) g.some in
-    let gt : allowance scene c <ℤ (rounded scene c +ℤ pos (grain scene c)) = floor_to-near (grain scene c) (allowance scene c) g.some in
-    let short : grain scene c ≤ longest_tick = omega (arith, g.within, timed.receives.tick_to) in
+    let g = common_divisor_at scene c timed in
+    let le : rounded scene c ≤ℤ allowance scene c = floor_to-le (common_divisor scene c) (allowance scene c) g.some in
+    let gt : allowance scene c <ℤ (rounded scene c +ℤ pos (common_divisor scene c)) = floor_to-near (common_divisor scene c) (allowance scene c) g.some in
+    let short : common_divisor scene c ≤ longest_tick = omega (arith, g.within, timed.receives.tick_to) in
     record { low = omega (arith, ints, near.low, gt, short); high = omega (arith, ints, near.high, le) }
 
 -- ---- the two waits of a connection
@@ -50,7 +50,7 @@ pub block_within : (scene : Scene) (c : ℕ) → IsTimed scene c → IsWithin (l
 unfolding block_wait
 block_within scene c timed =
     let r = rounded_at scene c timed in
-    let g = grain_at scene c timed in
+    let g = common_divisor_at scene c timed in
     let t = timed.receives in
     record {
       waiter = timed.ends.to_app;

@@ -13,12 +13,12 @@ use Rattle.scene_model.specs.declared.wait.WaitKind.TheVariants.{ForBlock, ForRo
 -- ---- the waits of a connection
 
 -- what both ticks are multiples of
-abbrev pub grain : Scene → ℕ → ℕ
-grain scene c = gcd (tick scene (sender scene c)) (tick scene (receiver scene c))
+abbrev pub common_divisor : Scene → ℕ → ℕ
+common_divisor scene c = gcd (tick scene (sender scene c)) (tick scene (receiver scene c))
 
 -- the allowance, rounded down to such multiples, since both clocks are
 abbrev pub rounded : Scene → ℕ → ℤ
-rounded scene c = floor_to (grain scene c) (allowance scene c)
+rounded scene c = floor_to (common_divisor scene c) (allowance scene c)
 
 -- the receiver waits for a block
 unfoldable pub block_wait : Scene → ℕ → Wait
@@ -28,7 +28,7 @@ block_wait scene c = record {
   link = c;
   kind = ForBlock;
   allowance = rounded scene c;
-  burden = pos (tick scene (receiver scene c)) -ℤ pos (grain scene c);
+  burden = pos (tick scene (receiver scene c)) -ℤ pos (common_divisor scene c);
 }
 
 -- the sender waits for room, where the connection keeps at most m blocks

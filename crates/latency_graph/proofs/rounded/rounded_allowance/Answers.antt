@@ -10,7 +10,7 @@ pub returns-clause-value : goal.returns-clause-value
 returns-clause-value c =
     let fits : FitsSigned w128 c.floor_to.result = search rules in
     let near : FitsSigned w128 c.allowance_of-allowance.result = search rules in
-    rw (to_z-of_z w128 c.floor_to.result fits, c.floor_to.ensures.value, to_z-of_z w128 c.allowance_of-allowance.result near, c.grain-grain.ensures.value, c.allowance_of-allowance.ensures.value)
+    rw (to_z-of_z w128 c.floor_to.result fits, c.floor_to.ensures.value, to_z-of_z w128 c.allowance_of-allowance.result near, c.common_divisor-common_divisor.ensures.value, c.allowance_of-allowance.ensures.value)
 
 pub returns-clause-near : goal.returns-clause-near
 returns-clause-near c =

@@ -18,5 +18,5 @@ returns c =
       c.rounded_allowance.ensures.value,
       c.time_beyond.ensures,
       c.receiver_of.ensures,
-      c.grain.ensures.value,
+      c.common_divisor.ensures.value,
     )

@@ -1,7 +1,7 @@
 use Rattle.scene_model.specs.Clocks.{tick}
 use Rattle.scene_model.proofs.Bounds.{timed_at}
-use Rattle.scene_model.proofs.WaitBounds.{grain_at}
-use Rattle.latency_graph.proofs.rounded.grain.Goals as goal
+use Rattle.scene_model.proofs.WaitBounds.{common_divisor_at}
+use Rattle.latency_graph.proofs.rounded.common_divisor.Goals as goal
 
 pub returns-clause-value : goal.returns-clause-value
 unfolding tick
@@ -9,4 +9,4 @@ returns-clause-value c = rw (c.gcd.ensures.value, c.sender_of.ensures, c.receive
 
 pub returns-clause-within : goal.returns-clause-within
 returns-clause-within c =
-    rw (returns-clause-value c) (grain_at c.args.scene.now c.args.link (timed_at c.args.scene.now c.args.link c.requires.scene c.requires.link)).within
+    rw (returns-clause-value c) (common_divisor_at c.args.scene.now c.args.link (timed_at c.args.scene.now c.args.link c.requires.scene c.requires.link)).within
