@@ -13,6 +13,7 @@ use Rattle.scene_model.specs.Waits.{waits, stated, stated_limits, block_wait, ro
 use Rattle.scene_model.specs.WellFormed.{IsWellFormed}
 use Rattle.scene_model.specs.declared.scene.Scene.{Scene}
 use Rattle.scene_model.specs.declared.wait.Wait.{Wait}
+use Rattle.scene_model.specs.WorkedScenes.{slow_receiver}
 use Rattle.scene_model.specs.WorkedWaits.{latency_of_a_tick, little_room, no_latency, short_latency, to_itself, to_itself_late, two_ways}
 use Rattle.scene_model.proofs.Cycles.{passed_are_covered}
 
@@ -43,6 +44,20 @@ told_two all w v there back less has_w has_v low = record {
 
 covered_by : (n : ℕ) (potentials : List ℤ) (all : List Wait) → AllByRecursion (Passes n potentials) all → AllCovered all
 covered_by n potentials all passed = passed_are_covered n potentials all (All-from_recursion (Passes n potentials) all passed)
+
+-- ---- a receiver whose tick is ten of the sender's
+
+slow_receiver-limit : (c : ℕ) → c < 1 → IsLimit slow_receiver (1 ∷ []) c (stated slow_receiver c)
+unfolding allowance latency delay tick sender receiver gcd floor_to block_wait room_wait stated
+slow_receiver-limit zero lt = record {
+  some = omega arith;
+  covered = covered_by 2 (pos 0 ∷ pos 18_000_001 ∷ []) (block_wait slow_receiver 0 ∷ room_wait slow_receiver 0 1 ∷ []) (omega (arith, ints), (omega (arith, ints), tt));
+  least = λ less low high. absurd (omega arith);
+}
+slow_receiver-limit (suc c) lt = absurd (omega arith)
+
+pub slow_receiver-limits : AreLimits slow_receiver (1 ∷ [])
+slow_receiver-limits = record { counted = refl; each = slow_receiver-limit }
 
 -- ---- two connections, of which the second is late
 

@@ -5,6 +5,7 @@ ghost use Rattle.scene_model.specs.Orders.{AllFinished, IsLawful, after_all, ope
 ghost use Rattle.scene_model.specs.Waits.{AreLimits, Fits, IsAccepted, block_wait, room_wait, stated_limits, waits};
 ghost use Rattle.scene_model.specs.WellFormed.{IsWellFormed};
 ghost use Rattle.scene_model.specs.WorkedOrders.{one_step, one_step_order};
+ghost use Rattle.scene_model.specs.WorkedScenes.{slow_receiver};
 ghost use Rattle.scene_model.specs.WorkedWaits.{
   latency_of_a_tick,
   little_room,
@@ -15,9 +16,10 @@ ghost use Rattle.scene_model.specs.WorkedWaits.{
   two_ways,
 };
 
-/// What two connections between the same applications have to keep: the second one four blocks, since its events come
-/// 5 ms late and the first one's at once.
+/// What connections have to keep. Of two between the same applications the second one keeps four blocks, since its events
+/// come 5 ms late and the first one's at once. One whose receiver's tick is ten of the sender's keeps one.
 pub fn worked_limits_hold()
+    ensures slow_receiver { AreLimits slow_receiver (1 ∷ []) }
     ensures accepted { IsAccepted (two_ways None) }
     ensures chosen { AreLimits (two_ways None) (1 ∷ 4 ∷ []) }
     ensures fits { Fits (two_ways None) (1 ∷ 4 ∷ []) (pos 0 ∷ pos 1 ∷ []) }

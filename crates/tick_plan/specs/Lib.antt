@@ -4,4 +4,3 @@ pub mod Faults
 pub mod Room
 pub mod Choices
 pub mod Plans
-pub mod WorkedLimits

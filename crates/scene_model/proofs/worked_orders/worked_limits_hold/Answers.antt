@@ -1,8 +1,9 @@
-use Rattle.scene_model.proofs.WorkedLimits.{two_ways-accepted, two_ways-limits, two_ways-fits, two_ways-well_formed, four_ways-limits, three_ways-told}
+use Rattle.scene_model.proofs.WorkedLimits.{slow_receiver-limits, two_ways-accepted, two_ways-limits, two_ways-fits, two_ways-well_formed, four_ways-limits, three_ways-told}
 use Rattle.scene_model.proofs.worked_orders.worked_limits_hold.Goals as goal
 
 pub returns : goal.returns
 returns c = record {
+  slow_receiver = slow_receiver-limits;
   accepted = two_ways-accepted;
   chosen = two_ways-limits;
   fits = two_ways-fits;
