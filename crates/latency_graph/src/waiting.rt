@@ -47,8 +47,8 @@ fn room_allowance(limit: u64, send_tick: Nanos, receive_tick: Nanos, rounded: i1
     requires rounded { unsigned_abs rounded ≤ 10 ^ 16 }
     ensures { result ≡ pos ((limit + 1) * send_tick + receive_tick) -ℤ rounded }
 {
-    let time = (i128::from(limit) + 1) * i128::from(send_tick.0) + i128::from(receive_tick.0);
-    time - rounded
+    let time = (u128::from(limit) + 1) * u128::from(send_tick.0) + u128::from(receive_tick.0);
+    time as i128 - rounded
 }
 
 /// The wait of the connection's sender for room, where at most so many blocks are kept.
