@@ -1,3 +1,6 @@
+ghost use Rattle.std.specs.Prelude.{◌≡◌, IfOk};
+ghost use Rattle.scene_model.specs.declared.rule.Rule.TheVariants.{EmitAt, EmitEvery, Pass, SetValue, Ramp, CopyValues, When, Say, Reply};
+
 use music_base::{Name, Nanos, NoMemory, Sample, TryCopy, Word};
 use std::alloc::Global;
 
@@ -73,98 +76,190 @@ pub enum Rule {
     },
 }
 
+fn copy_emit_at(alloc: Global, port: &Name, index: u32, time: Nanos) -> Result<Rule, NoMemory>
+    ensures { IfOk result (λ copy. copy ≡ EmitAt port.now index time) }
+{
+    Ok(Rule::EmitAt {
+        port: port.copy(alloc)?,
+        index,
+        time,
+    })
+}
+
+fn copy_emit_every(
+    alloc: Global,
+    port: &Name,
+    index: u32,
+    every: Nanos,
+    first: Nanos,
+) -> Result<Rule, NoMemory>
+    ensures { IfOk result (λ copy. copy ≡ EmitEvery port.now index every first) }
+{
+    Ok(Rule::EmitEvery {
+        port: port.copy(alloc)?,
+        index,
+        every,
+        first,
+    })
+}
+
+fn copy_pass(
+    alloc: Global,
+    input: &Name,
+    output: &Name,
+    shift: i32,
+    after: Nanos,
+) -> Result<Rule, NoMemory>
+    ensures { IfOk result (λ copy. copy ≡ Pass input.now output.now shift after) }
+{
+    Ok(Rule::Pass {
+        input: input.copy(alloc)?,
+        output: output.copy(alloc)?,
+        shift,
+        after,
+    })
+}
+
+fn copy_set_value(alloc: Global, port: &Name, index: u32, value: Sample) -> Result<Rule, NoMemory>
+    ensures { IfOk result (λ copy. copy ≡ SetValue port.now index value) }
+{
+    Ok(Rule::SetValue {
+        port: port.copy(alloc)?,
+        index,
+        value,
+    })
+}
+
+fn copy_ramp(
+    alloc: Global,
+    port: &Name,
+    index: u32,
+    start: Sample,
+    by: Sample,
+) -> Result<Rule, NoMemory>
+    ensures { IfOk result (λ copy. copy ≡ Ramp port.now index start by) }
+{
+    Ok(Rule::Ramp {
+        port: port.copy(alloc)?,
+        index,
+        start,
+        by,
+    })
+}
+
+fn copy_copy_values(
+    alloc: Global,
+    input: &Name,
+    output: &Name,
+    numerator: i32,
+    denominator: u32,
+    add: Sample,
+) -> Result<Rule, NoMemory>
+    ensures { IfOk result (λ copy. copy ≡ CopyValues input.now output.now numerator denominator add) }
+{
+    Ok(Rule::CopyValues {
+        input: input.copy(alloc)?,
+        output: output.copy(alloc)?,
+        numerator,
+        denominator,
+        add,
+    })
+}
+
+fn copy_when(
+    alloc: Global,
+    input: &Name,
+    index: u32,
+    over: Sample,
+    output: &Name,
+    emitted: u32,
+) -> Result<Rule, NoMemory>
+    ensures { IfOk result (λ copy. copy ≡ When input.now index over output.now emitted) }
+{
+    Ok(Rule::When {
+        input: input.copy(alloc)?,
+        index,
+        over,
+        output: output.copy(alloc)?,
+        emitted,
+    })
+}
+
+fn copy_say(
+    alloc: Global,
+    port: &Name,
+    word: &Word,
+    every: Nanos,
+    first: Nanos,
+) -> Result<Rule, NoMemory>
+    ensures { IfOk result (λ copy. copy ≡ Say port.now word.now every first) }
+{
+    Ok(Rule::Say {
+        port: port.copy(alloc)?,
+        word: word.copy(alloc)?,
+        every,
+        first,
+    })
+}
+
+fn copy_reply(alloc: Global, input: &Name, output: &Name, after: Nanos) -> Result<Rule, NoMemory>
+    ensures { IfOk result (λ copy. copy ≡ Reply input.now output.now after) }
+{
+    Ok(Rule::Reply {
+        input: input.copy(alloc)?,
+        output: output.copy(alloc)?,
+        after,
+    })
+}
+
 impl TryCopy for Rule {
     fn copy(&self, alloc: Global) -> Result<Rule, NoMemory> {
         match self {
-            Rule::EmitAt { port, index, time } => Ok(Rule::EmitAt {
-                port: port.copy(alloc)?,
-                index: *index,
-                time: *time,
-            }),
+            Rule::EmitAt { port, index, time } => copy_emit_at(alloc, port, *index, *time),
             Rule::EmitEvery {
                 port,
                 index,
                 every,
                 first,
-            } => Ok(Rule::EmitEvery {
-                port: port.copy(alloc)?,
-                index: *index,
-                every: *every,
-                first: *first,
-            }),
+            } => copy_emit_every(alloc, port, *index, *every, *first),
             Rule::Pass {
                 input,
                 output,
                 shift,
                 after,
-            } => Ok(Rule::Pass {
-                input: input.copy(alloc)?,
-                output: output.copy(alloc)?,
-                shift: *shift,
-                after: *after,
-            }),
-            Rule::SetValue { port, index, value } => Ok(Rule::SetValue {
-                port: port.copy(alloc)?,
-                index: *index,
-                value: *value,
-            }),
+            } => copy_pass(alloc, input, output, *shift, *after),
+            Rule::SetValue { port, index, value } => copy_set_value(alloc, port, *index, *value),
             Rule::Ramp {
                 port,
                 index,
                 start,
                 by,
-            } => Ok(Rule::Ramp {
-                port: port.copy(alloc)?,
-                index: *index,
-                start: *start,
-                by: *by,
-            }),
+            } => copy_ramp(alloc, port, *index, *start, *by),
             Rule::CopyValues {
                 input,
                 output,
                 numerator,
                 denominator,
                 add,
-            } => Ok(Rule::CopyValues {
-                input: input.copy(alloc)?,
-                output: output.copy(alloc)?,
-                numerator: *numerator,
-                denominator: *denominator,
-                add: *add,
-            }),
+            } => copy_copy_values(alloc, input, output, *numerator, *denominator, *add),
             Rule::When {
                 input,
                 index,
                 over,
                 output,
                 emitted,
-            } => Ok(Rule::When {
-                input: input.copy(alloc)?,
-                index: *index,
-                over: *over,
-                output: output.copy(alloc)?,
-                emitted: *emitted,
-            }),
+            } => copy_when(alloc, input, *index, *over, output, *emitted),
             Rule::Say {
                 port,
                 word,
                 every,
                 first,
-            } => Ok(Rule::Say {
-                port: port.copy(alloc)?,
-                word: word.copy(alloc)?,
-                every: *every,
-                first: *first,
-            }),
+            } => copy_say(alloc, port, word, *every, *first),
             Rule::Reply {
                 input,
                 output,
                 after,
-            } => Ok(Rule::Reply {
-                input: input.copy(alloc)?,
-                output: output.copy(alloc)?,
-                after: *after,
-            }),
+            } => copy_reply(alloc, input, output, *after),
         }
     }
 }
