@@ -12,7 +12,7 @@ fn end_without(step: u64, tick: u64, allowance: i128) -> i128
     requires allowance { unsigned_abs allowance ≤ 10 ^ 16 }
     ensures { result ≡ pos ((step + 1) * tick) -ℤ allowance }
 {
-    (step as i128 + 1) * tick as i128 - allowance
+    i128::from((step + 1) * tick) - allowance
 }
 
 /// How many of the first `sent` multiples of the tick stand before the end.
