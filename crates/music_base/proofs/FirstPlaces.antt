@@ -1,8 +1,8 @@
 -- Where a list is cut at the first element that passes a test.
-use Rattle.std.proofs.Common.{◌≡◌, ◌⊎◌, ℕ, ◌+◌, ◌≤◌, Bool, true, false, not, List, [], ◌∷◌, ◌++◌, length, drop, get_or, refl, sym, ap, ◌∙◌, inl, inr, arith, append_assoc}
+use Rattle.std.proofs.Common.{◌≡◌, ◌⊎◌, ℕ, ◌+◌, ◌≤◌, Bool, true, false, not, ltb, List, [], ◌∷◌, ◌++◌, length, drop, get_or, refl, sym, ap, ◌∙◌, inl, inr, arith, append_assoc}
 use Rattle.std.specs.List.{list_any, position, position_or_len, before_first, after_first}
 use Rattle.std.specs.Option.{unwrap_or}
-use Rattle.std.proofs.lemmas.Bool.{cases_lt, lt-ltb, le-ltb, or_parts}
+use Rattle.std.proofs.lemmas.Bool.{cases_Bool, or_from, cases_lt, lt-ltb, le-ltb, or_parts}
 use Rattle.std.proofs.lemmas.List.{length-append, take_all, take_at, drop_at, drop_all}
 use Rattle.std.proofs.lemmas.List.Sums.{prefix_len-le-length, passes_at_first, split_at_first}
 use Rattle.std.proofs.lemmas.List.Folds.{list_any_at}
@@ -14,6 +14,30 @@ place_or_len p xs =
     elim (cases_lt (position_or_len p xs) (length xs)) [
       | inl lt ↦ (rw (lt-ltb _ _ lt) refl, le)
       | inr ge ↦ (rw (le-ltb _ _ ge) (omega arith), le)
+    ]
+
+-- ---- whether one passes
+
+goes_on : {X : Type 0} (p : X → Bool) (x : X) (xs : List X) → length (x ∷ xs) ≤ position_or_len p (x ∷ xs) → (p x ≡ false) × (length xs ≤ position_or_len p xs)
+goes_on p x xs none =
+    elim (cases_Bool (p x)) [
+      | inl ends ↦ absurd (omega (arith, rw ends at none))
+      | inr goes ↦ (goes, omega (arith, rw goes at none))
+    ]
+
+none_passes : {X : Type 0} (p : X → Bool) (xs : List X) → length xs ≤ position_or_len p xs → list_any p xs ≡ false
+none_passes p [] none = refl
+none_passes p (x ∷ xs) none =
+    let on = goes_on p x xs none in
+    or_from (p x) (list_any p xs) on.0 (none_passes p xs on.1)
+
+-- where one passes, the first place is within
+pub is_found : (p : ℕ → Bool) (xs : List ℕ) → ltb (position_or_len p xs) (length xs) ≡ list_any p xs
+is_found p xs =
+    let at = position_or_len p xs in
+    elim (cases_lt at (length xs)) [
+      | inl lt ↦ rw (lt-ltb _ _ lt, list_any_at p xs at 0 lt (passes_at_first p xs 0 lt)) refl
+      | inr ge ↦ rw (le-ltb _ _ ge, none_passes p xs ge) refl
     ]
 
 -- ---- where none passes

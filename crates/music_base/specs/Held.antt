@@ -11,4 +11,4 @@ name_bytes (names.Long bytes) = bytes.value.items
 
 abbrev pub word_bytes : WordBytes → List ℕ
 word_bytes (words.Short bytes) = bytes
-word_bytes (words.Long bytes) = bytes.items
+word_bytes (words.Long bytes) = bytes.value.items

@@ -9,3 +9,4 @@ pub mod Times
 pub mod TimeTexts
 pub mod Wants
 pub mod Held
+pub mod TimeCuts

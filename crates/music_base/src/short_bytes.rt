@@ -1,4 +1,4 @@
-ghost use Rattle.std.specs.Prelude.{◌≡◌, IfSome};
+ghost use Rattle.std.specs.Prelude.{◌≡◌, [], IfSome};
 
 use std::marker::Model;
 
@@ -20,6 +20,16 @@ impl<const N: usize> Model for ShortBytes<N> {
 }
 
 impl<const N: usize> ShortBytes<N> {
+    /// No bytes. It takes no memory.
+    pub fn new() -> ShortBytes<N>
+        ensures { result ≡ [] }
+    {
+        ShortBytes {
+            len: 0,
+            bytes: [0u8; N],
+        }
+    }
+
     /// A copy of the bytes, where there is room for them. It takes no memory.
     pub fn from_slice(from: &[u8]) -> Option<ShortBytes<N>>
         ensures { IfSome result (λ short. short ≡ from.now) }

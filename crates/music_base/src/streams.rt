@@ -11,7 +11,7 @@ use std::alloc::Global;
 pub const MOST_READ: u64 = 1_048_577;
 
 // How many bytes are asked of a source in one call.
-const PIECE: usize = 4096;
+const PIECE: usize = 16384;
 
 /// Why a source was not read to its end.
 #[derive(Clone, Copy, Debug, PartialEq, Eq)]

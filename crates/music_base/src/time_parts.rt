@@ -1,9 +1,10 @@
 //! The parts of a time text, where they stand in it.
-ghost use Rattle.std.specs.Prelude.{◌≡◌, ℕ, ◌+◌, ◌*◌, ◌^◌, ◌<◌, ◌≤◌, IsTrue, drop, length};
-ghost use Rattle.std.specs.List.{position, position_or_len, list_all, list_any};
+ghost use Rattle.std.specs.Prelude.{◌≡◌, ℕ, ◌+◌, ◌*◌, ◌^◌, ◌<◌, ◌≤◌, IsTrue, true, drop, length};
+ghost use Rattle.std.specs.List.{position, position_or_len, list_all};
 ghost use Rattle.std.specs.Char.{is_ascii_digit};
 ghost use Rattle.std.specs.Str.Parse.{digits_value_after, starts_with_minus, without_leading_sign};
-ghost use Rattle.music_base.specs.Times.{is_time_text, is_exponent_mark, is_point, is_exponent, has_good_exponent, mantissa, exponent, whole, fraction, exponent_size, digits_of, raised, lowered};
+ghost use Rattle.music_base.specs.Times.{is_time_text, is_exponent_mark, is_point, is_exponent, has_good_exponent, fraction, exponent_size, digits_of, raised, lowered};
+ghost use Rattle.music_base.specs.TimeCuts.{IsCut};
 
 /// How many bytes a time text has at most.
 const LONGEST: usize = 30;
@@ -55,34 +56,35 @@ fn behind(bytes: &[u8], place: usize) -> &[u8]
     }
 }
 
-/// What stands before the mark of the exponent.
-fn mantissa(text: &[u8]) -> &[u8]
-    ensures { result.now ≡ mantissa text.now }
-{
-    &text[..mark_place(text)]
+/// A text, cut where the parts of a time stand in it.
+#[derive(Clone, Copy)]
+pub struct TimeCut<'a> {
+    pub text: &'a [u8],
+    /// What stands before the point.
+    pub whole: &'a [u8],
+    /// What stands after the point, and before the mark of the exponent.
+    pub fraction: &'a [u8],
+    pub has_mark: bool,
+    /// What stands behind the mark of the exponent.
+    pub exponent: &'a [u8],
 }
 
-/// What stands behind the mark of the exponent.
-fn exponent(text: &[u8]) -> &[u8]
-    ensures { result.now ≡ exponent text.now }
+/// Cuts a text at the mark of its exponent, and what stands before that at its point.
+#[tactic(auto, using(crate::proofs::FirstPlaces::is_found))]
+pub fn cut(text: &[u8]) -> TimeCut<'_>
+    ensures text { result.text.now ≡ text.now }
+    ensures cut { IsCut result }
 {
-    behind(text, mark_place(text))
-}
-
-/// The digits before the point.
-fn whole(text: &[u8]) -> &[u8]
-    ensures { result.now ≡ whole text.now }
-{
-    let mantissa = mantissa(text);
-    &mantissa[..point_place(mantissa)]
-}
-
-/// The digits after the point.
-fn fraction(text: &[u8]) -> &[u8]
-    ensures { result.now ≡ fraction text.now }
-{
-    let mantissa = mantissa(text);
-    behind(mantissa, point_place(mantissa))
+    let mark = mark_place(text);
+    let mantissa = &text[..mark];
+    let point = point_place(mantissa);
+    TimeCut {
+        text,
+        whole: &mantissa[..point],
+        fraction: behind(mantissa, point),
+        has_mark: mark < text.len(),
+        exponent: behind(text, mark),
+    }
 }
 
 fn are_digits(bytes: &[u8]) -> bool
@@ -114,28 +116,24 @@ fn is_exponent(bytes: &[u8]) -> bool
     1 <= digits.len() && digits.len() <= 3 && are_digits(digits)
 }
 
-fn has_mark(text: &[u8]) -> bool
-    ensures { result ≡ list_any is_exponent_mark text.now }
-{
-    text.iter().any(|b| is_exponent_mark(*b))
-}
-
 /// Where there is a mark, an exponent stands behind it.
-fn has_good_exponent(text: &[u8]) -> bool
-    ensures { result ≡ has_good_exponent text.now }
+fn has_good_exponent(cut: TimeCut<'_>) -> bool
+    requires { IsCut cut }
+    ensures { result ≡ has_good_exponent cut.entry.text.now }
 {
-    !has_mark(text) || is_exponent(exponent(text))
+    !cut.has_mark || is_exponent(cut.exponent)
 }
 
 /// Whether the text has the form of a time.
-pub fn is_time_text(text: &[u8]) -> bool
-    ensures { result ≡ is_time_text text.now }
+pub fn is_time_text(cut: TimeCut<'_>) -> bool
+    requires { IsCut cut }
+    ensures { result ≡ is_time_text cut.entry.text.now }
 {
-    text.len() <= LONGEST
-        && are_digits(whole(text))
-        && are_digits(fraction(text))
-        && 0 < whole(text).len() + fraction(text).len()
-        && has_good_exponent(text)
+    cut.text.len() <= LONGEST
+        && are_digits(cut.whole)
+        && are_digits(cut.fraction)
+        && 0 < cut.whole.len() + cut.fraction.len()
+        && has_good_exponent(cut)
 }
 
 /// The number of these digits behind those of `number`.
@@ -153,52 +151,57 @@ fn number_behind(number: u128, digits: &[u8]) -> u128
 }
 
 /// How far the exponent moves the point, to either side.
-fn exponent_size(text: &[u8]) -> u32
-    requires { IsTrue (is_time_text text.now) }
-    ensures value { result ≡ exponent_size text.now }
+fn exponent_size(cut: TimeCut<'_>) -> u32
+    requires cut { IsCut cut }
+    requires form { is_time_text cut.text.now ≡ true }
+    ensures value { result ≡ exponent_size cut.entry.text.now }
     ensures small { result < 1000 }
 {
-    number_behind(0, without_sign(exponent(text))) as u32
+    number_behind(0, without_sign(cut.exponent)) as u32
 }
 
 /// The number of all digits before the exponent.
-pub fn digits_of(text: &[u8]) -> u128
-    requires { IsTrue (is_time_text text.now) }
-    ensures value { result ≡ digits_of text.now }
+pub fn digits_of(cut: TimeCut<'_>) -> u128
+    requires cut { IsCut cut }
+    requires form { is_time_text cut.text.now ≡ true }
+    ensures value { result ≡ digits_of cut.entry.text.now }
     ensures few { result < 10 ^ 30 }
 {
-    number_behind(number_behind(0, whole(text)), fraction(text))
+    number_behind(number_behind(0, cut.whole), cut.fraction)
 }
 
 /// How many tens the digits are multiplied by.
-pub fn raised(text: &[u8]) -> u32
-    requires { IsTrue (is_time_text text.now) }
-    ensures { result ≡ raised text.now }
+pub fn raised(cut: TimeCut<'_>) -> u32
+    requires cut { IsCut cut }
+    requires form { is_time_text cut.text.now ≡ true }
+    ensures { result ≡ raised cut.entry.text.now }
 {
-    if is_negative(exponent(text)) {
+    if is_negative(cut.exponent) {
         9
     } else {
-        9 + exponent_size(text)
+        9 + exponent_size(cut)
     }
 }
 
 /// How many digits stand after the point.
-fn places(text: &[u8]) -> u32
-    requires { IsTrue (is_time_text text.now) }
-    ensures count { result ≡ length (fraction text.now) }
+fn places(cut: TimeCut<'_>) -> u32
+    requires cut { IsCut cut }
+    requires form { is_time_text cut.text.now ≡ true }
+    ensures count { result ≡ length (fraction cut.entry.text.now) }
     ensures few { result ≤ 30 }
 {
-    fraction(text).len() as u32
+    cut.fraction.len() as u32
 }
 
 /// How many tens the digits are divided by.
-pub fn lowered(text: &[u8]) -> u32
-    requires { IsTrue (is_time_text text.now) }
-    ensures { result ≡ lowered text.now }
+pub fn lowered(cut: TimeCut<'_>) -> u32
+    requires cut { IsCut cut }
+    requires form { is_time_text cut.text.now ≡ true }
+    ensures { result ≡ lowered cut.entry.text.now }
 {
-    if is_negative(exponent(text)) {
-        places(text) + exponent_size(text)
+    if is_negative(cut.exponent) {
+        places(cut) + exponent_size(cut)
     } else {
-        places(text)
+        places(cut)
     }
 }

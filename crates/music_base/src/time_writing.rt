@@ -63,5 +63,5 @@ fn spelled(alloc: Global, time: Nanos) -> Result<Word, NoMemory>
     let seconds = time.0 / NANOS_A_SECOND;
     let mut out = format!(in alloc; "{seconds}")?.into_bytes();
     push_nanos(&mut out, time.0 % NANOS_A_SECOND)?;
-    Ok(Word::from_vec(out))
+    Word::from_slice(alloc, &out)
 }

@@ -3,7 +3,7 @@ ghost use Rattle.std.specs.Prelude.{◌≡◌};
 ghost use Rattle.music_base.specs.Times.{time_value};
 
 use crate::Nanos;
-use crate::time_parts::{digits_of, is_time_text, lowered, raised};
+use crate::time_parts::{cut, digits_of, is_time_text, lowered, raised};
 use crate::time_scale::scaled;
 
 /// Why a text is no time. The reasons are tested in this order.
@@ -23,8 +23,9 @@ pub enum TimeFault {
 pub fn read_time(text: &[u8]) -> Result<Nanos, TimeFault>
     ensures value { result ≡ time_value text.now }
 {
-    if !is_time_text(text) {
+    let cut = cut(text);
+    if !is_time_text(cut) {
         return Err(TimeFault::Spelling);
     }
-    scaled(digits_of(text), raised(text), lowered(text))
+    scaled(digits_of(cut), raised(cut), lowered(cut))
 }

@@ -1,18 +1,31 @@
-ghost use Rattle.std.specs.Prelude.{◌≡◌, ◌==◌, IfOk};
+ghost use Rattle.std.specs.Prelude.{◌≡◌, ◌==◌, [], IfOk};
 ghost use Rattle.std.specs.Cmp.Lexicographic.{pointwise};
 ghost use Rattle.std.specs.Cmp.Rules.{comparing};
 ghost use Rattle.std.proofs.Common.{rules};
+ghost use Rattle.music_base.specs.Held.{word_bytes};
 
 use crate::short_bytes::ShortBytes;
 use crate::{NoMemory, TryCopy};
 use std::alloc::Global;
 use std::marker::Model;
 
-// The bytes of a word: up to 30 in the value itself, and more in memory of their own.
+// The bytes of a word: up to 14 in the value itself, and more in memory of their own.
 #[derive(Debug, Drop)]
 enum WordBytes {
-    Short(ShortBytes<30>),
-    Long(Vec<u8>),
+    Short(ShortBytes<14>),
+    Long(Box<Vec<u8>>),
+}
+
+fn word_bytes(alloc: Global, bytes: &[u8]) -> Result<WordBytes, NoMemory>
+    ensures { IfOk result (λ held. word_bytes held ≡ bytes.now) }
+{
+    match ShortBytes::from_slice(bytes) {
+        Some(short) => Ok(WordBytes::Short(short)),
+        None => {
+            let long = Vec::from_slice(alloc, bytes)?;
+            Ok(WordBytes::Long(Box::new(alloc, long)?))
+        }
+    }
 }
 
 /// A text of any bytes. Contracts see its bytes.
@@ -31,12 +44,12 @@ impl Model for Word {
 }
 
 impl Word {
-    /// The word of these bytes. It takes no memory.
-    pub fn from_vec(bytes: Vec<u8>) -> Word
-        ensures { result ≡ bytes.items }
+    /// The word of no bytes. It takes no memory.
+    pub fn new() -> Word
+        ensures { result ≡ [] }
     {
         Word {
-            bytes: WordBytes::Long(bytes),
+            bytes: WordBytes::Short(ShortBytes::new()),
         }
     }
 
@@ -44,12 +57,8 @@ impl Word {
     pub fn from_slice(alloc: Global, bytes: &[u8]) -> Result<Word, NoMemory>
         ensures { IfOk result (λ word. word ≡ bytes.now) }
     {
-        match ShortBytes::from_slice(bytes) {
-            Some(short) => Ok(Word {
-                bytes: WordBytes::Short(short),
-            }),
-            None => Ok(Word::from_vec(Vec::from_slice(alloc, bytes)?)),
-        }
+        let bytes = word_bytes(alloc, bytes)?;
+        Ok(Word { bytes })
     }
 
     pub fn as_slice(&self) -> &[u8]

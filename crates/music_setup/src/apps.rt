@@ -32,7 +32,7 @@ fn ports_in(alloc: Global, np: u32, text: Option<&Word>) -> Result<Items<PortDec
     ensures differ { IfOk result (λ ports. names_differ ports ≡ true) }
     ensures fault { IfErr result (IsAppFault (ports_in np (option_copied text.entry))) }
 {
-    let none = Word::from_vec(Vec::new(alloc));
+    let none = Word::new();
     let ports = read_ports(alloc, text.unwrap_or(&none), np)?;
     Ok(ports)
 }
@@ -51,7 +51,7 @@ fn rules_in(
     ensures rules { IfOk result (λ rules. rules_in ports.now tick stop (option_copied text.entry) ≡ Ok rules) }
     ensures fault { IfErr result (IsAppFault (rules_in ports.now tick stop (option_copied text.entry))) }
 {
-    let none = Word::from_vec(Vec::new(alloc));
+    let none = Word::new();
     let rules = read_rules(alloc, text.unwrap_or(&none), ports, tick, stop)?;
     Ok(rules)
 }
