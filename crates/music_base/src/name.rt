@@ -1,7 +1,6 @@
-ghost use Rattle.std.specs.Prelude.{◌≡◌, ◌==◌, IfOk, true};
+ghost use Rattle.std.specs.Prelude.{◌≡◌, ◌==◌, [], ◌∷◌, IfOk, true};
 ghost use Rattle.std.specs.Cmp.Lexicographic.{pointwise};
 ghost use Rattle.std.specs.Cmp.Rules.{comparing, hashing};
-ghost use Rattle.std.specs.Hash as fed;
 ghost use Rattle.std.specs.List.{list_all};
 ghost use Rattle.std.proofs.Common.{rules};
 ghost use Rattle.music_base.specs.Names.{is_name, begins_name, is_in_names};
@@ -20,6 +19,7 @@ enum NameBytes {
     Long(Box<Vec<u8>>),
 }
 
+#[inline(always)]
 fn name_bytes(alloc: Global, bytes: &[u8]) -> Result<NameBytes, NoMemory>
     ensures { IfOk result (λ held. name_bytes held ≡ bytes.now) }
 {
@@ -78,6 +78,7 @@ pub fn is_name(bytes: &[u8]) -> bool
 
 impl Name {
     /// The name of these bytes, which `is_name` has to have found to be one.
+    #[inline(always)]
     pub fn from_slice(alloc: Global, bytes: &[u8]) -> Result<Name, NoMemory>
         requires { is_name bytes.now ≡ true }
         ensures { IfOk result (λ name. name ≡ bytes.now) }
@@ -118,11 +119,11 @@ impl Eq for Name {
 }
 
 impl Hash for Name {
-    ghost hash_input = { λ name. fed.slice fed.u8 name };
+    ghost hash_input = { λ name. name ∷ [] };
 
     ghost respects_eq = { Prim.search (hashing, rules) };
 
     fn hash<H: Hasher>(&self, state: &mut H) {
-        self.as_slice().hash(state);
+        state.write(self.as_slice());
     }
 }

@@ -31,6 +31,7 @@ impl<const N: usize> ShortBytes<N> {
     }
 
     /// A copy of the bytes, where there is room for them. It takes no memory.
+    #[inline(always)]
     pub fn from_slice(from: &[u8]) -> Option<ShortBytes<N>>
         ensures { IfSome result (λ short. short ≡ from.now) }
     {

@@ -16,6 +16,7 @@ enum WordBytes {
     Long(Box<Vec<u8>>),
 }
 
+#[inline(always)]
 fn word_bytes(alloc: Global, bytes: &[u8]) -> Result<WordBytes, NoMemory>
     ensures { IfOk result (λ held. word_bytes held ≡ bytes.now) }
 {
@@ -54,6 +55,7 @@ impl Word {
     }
 
     /// A word of the same bytes.
+    #[inline(always)]
     pub fn from_slice(alloc: Global, bytes: &[u8]) -> Result<Word, NoMemory>
         ensures { IfOk result (λ word. word ≡ bytes.now) }
     {
