@@ -90,7 +90,11 @@ pub fn cut(text: &[u8]) -> TimeCut<'_>
 fn are_digits(bytes: &[u8]) -> bool
     ensures { result ≡ list_all is_ascii_digit bytes.now }
 {
-    bytes.iter().all(|b| b.is_ascii_digit())
+    let mut digits = true;
+    for byte in bytes {
+        digits &= byte.is_ascii_digit();
+    }
+    digits
 }
 
 fn without_sign(bytes: &[u8]) -> &[u8]

@@ -26,7 +26,7 @@ fn multiplied(digits: u128, by: u32) -> Result<Nanos, TimeFault>
     if by > 15 || digits > GREATEST {
         return Err(TimeFault::Range);
     }
-    in_range(digits * 10u128.pow(by))
+    in_range(digits * u128::from(10u64.pow(by)))
 }
 
 /// `digits / 10 ^ by` nanoseconds. Digits below 10^30 are no multiple of 30 tens or more.
