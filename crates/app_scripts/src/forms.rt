@@ -1,5 +1,5 @@
 //! The nine forms of a rule. `text` is one piece of the rules' text.
-ghost use Rattle.std.specs.Prelude.{◌≡◌, option_map};
+ghost use Rattle.std.specs.Prelude.{◌≡◌, option_map, IfSome, IfNone, Some, None};
 ghost use Rattle.text_words.specs.Words.{words};
 ghost use Rattle.app_scripts.specs.Forms.{
   copy_values,
@@ -21,24 +21,18 @@ use crate::words::{
     message_first, name_after, scale_after, shift_after, time_after,
 };
 
-/// `emit PORT INDEX at TIME`
-#[tactic(auto, unfolding(crate::specs::Forms::emit_at))]
-fn emit_at(text: &[u8]) -> Option<SpelledRule<'_>>
-    ensures { option_map rule_of result ≡ emit_at (words text.now) }
+/// `emit PORT INDEX at TIME` or `emit PORT INDEX every EVERY from FIRST`
+#[tactic(auto, unfolding(crate::specs::Forms::emit_at, crate::specs::Forms::emit_every, crate::specs::Forms::rule_in))]
+fn emit(text: &[u8]) -> Option<SpelledRule<'_>>
+    ensures some { IfSome result (λ rule. rule_in (words text.now) ≡ Some (rule_of rule)) }
+    ensures not_at { IfNone result (emit_at (words text.now) ≡ None) }
+    ensures not_every { IfNone result (emit_every (words text.now) ≡ None) }
 {
     let (port, rest) = name_after(b"emit", text)?;
     let (index, rest) = index_first(rest)?;
-    let time = last_time_after(b"at", rest)?;
-    Some(SpelledRule::EmitAt { port, index, time })
-}
-
-/// `emit PORT INDEX every EVERY from FIRST`
-#[tactic(auto, unfolding(crate::specs::Forms::emit_every))]
-fn emit_every(text: &[u8]) -> Option<SpelledRule<'_>>
-    ensures { option_map rule_of result ≡ emit_every (words text.now) }
-{
-    let (port, rest) = name_after(b"emit", text)?;
-    let (index, rest) = index_first(rest)?;
+    if let Some(time) = last_time_after(b"at", rest) {
+        return Some(SpelledRule::EmitAt { port, index, time });
+    }
     let (every, rest) = time_after(b"every", rest)?;
     let first = last_time_after(b"from", rest)?;
     Some(SpelledRule::EmitEvery {
@@ -168,10 +162,7 @@ fn reply(text: &[u8]) -> Option<SpelledRule<'_>>
 pub fn rule_in(text: &[u8]) -> Option<SpelledRule<'_>>
     ensures { option_map rule_of result ≡ rule_in (words text.now) }
 {
-    if let Some(rule) = emit_at(text) {
-        return Some(rule);
-    }
-    if let Some(rule) = emit_every(text) {
+    if let Some(rule) = emit(text) {
         return Some(rule);
     }
     if let Some(rule) = pass(text) {
