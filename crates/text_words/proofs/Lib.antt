@@ -1,3 +1,4 @@
+pub mod BytePlace
 pub mod Cutting
 pub mod Digits
 pub mod Options

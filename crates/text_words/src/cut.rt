@@ -4,11 +4,13 @@ ghost use Rattle.std.specs.List.{position, position_or_len, before_first, after_
 ghost use Rattle.std.specs.Option.{option_copied};
 ghost use Rattle.text_words.specs.Parts.{is_byte, parts, parts_left};
 
+use memchr::memchr;
+
 /// Where the first such byte stands.
 pub fn byte_place(byte: u8, bytes: &[u8]) -> Option<usize>
     ensures { result ≡ position (is_byte byte) bytes.now }
 {
-    bytes.iter().position(|b| *b == byte)
+    memchr(byte, bytes)
 }
 
 /// The part before the first such byte, and what stands behind that byte. Each may be empty.
