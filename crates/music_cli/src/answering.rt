@@ -15,29 +15,36 @@ use music_base::Sink;
 use music_setup::SetupFault;
 use std::alloc::Global;
 
-// Does what the command asks with a configuration, and with the bytes that spell it.
+// Does what the command asks with a configuration, and with the bytes that spell it. Their memory is given back first
+// where the configuration is enough.
 fn answer_config<K: Sink>(
     alloc: Global,
     command: Command,
     config: &Config,
-    bytes: &[u8],
+    bytes: Vec<u8>,
     sink: &mut K,
 ) -> Status
     requires { is_lawful_config config.now ≡ true }
-    ensures { IsGiven (AnswersConfig command config.now bytes.now) (ends (K.taken sink.old) (K.taken sink.new) (K.faults sink.old) (K.faults sink.new)) result }
+    ensures { IsGiven (AnswersConfig command config.now bytes.items) (ends (K.taken sink.old) (K.taken sink.new) (K.faults sink.old) (K.faults sink.new)) result }
 {
     match command {
-        Command::Check => check(alloc, config, sink),
-        Command::Plan => plan(alloc, config, sink),
-        Command::Run => run(alloc, bytes, sink),
+        Command::Check => {
+            drop(bytes);
+            check(alloc, config, sink)
+        }
+        Command::Plan => {
+            drop(bytes);
+            plan(alloc, config, sink)
+        }
+        Command::Run => run(alloc, &bytes, sink),
     }
 }
 
 /// Does what the command asks with the configuration that the bytes spell, or says which line of the text is faulty.
-pub fn answer_text<K: Sink>(alloc: Global, command: Command, bytes: &[u8], sink: &mut K) -> Status
-    ensures { IsGiven (AnswersText command bytes.now) (ends (K.taken sink.old) (K.taken sink.new) (K.faults sink.old) (K.faults sink.new)) result }
+pub fn answer_text<K: Sink>(alloc: Global, command: Command, bytes: Vec<u8>, sink: &mut K) -> Status
+    ensures { IsGiven (AnswersText command bytes.items) (ends (K.taken sink.old) (K.taken sink.new) (K.faults sink.old) (K.faults sink.new)) result }
 {
-    match read_config(alloc, bytes) {
+    match read_config(alloc, &bytes) {
         Ok(config) => answer_config(alloc, command, &config, bytes, sink),
         Err(TextFault::At { line, kind }) => {
             refuse(alloc, None, SetupFault::Text { line, kind }, sink)

@@ -37,7 +37,7 @@ fn follow<S: Source, K: Sink>(
         (ends (K.taken sink.old) (K.taken sink.new) (K.faults sink.old) (K.faults sink.new)) result }
 {
     match read_all(alloc, source, MOST_READ) {
-        Ok(bytes) => answer_text(alloc, command, &bytes, sink),
+        Ok(bytes) => answer_text(alloc, command, bytes, sink),
         Err(ReadFault::Source) => say(sink, Status::ReadFault, read_fault_text()),
         Err(ReadFault::Memory) => Status::NoMemory,
     }

@@ -1,4 +1,4 @@
-use Rattle.std.proofs.Common.{◌≡◌, ap, true}
+use Rattle.std.proofs.Common.{◌≡◌, refl, ap, true}
 use Rattle.std.specs.Prelude.{is_some}
 use Rattle.music_cli.specs.Words.{are_accepted}
 use Rattle.music_cli.specs.Clauses.{answered}
@@ -9,4 +9,4 @@ pub returns-in-Ok : goal.returns-in-Ok
 returns-in-Ok g c words is =
     let accepted : are_accepted words ≡ true = ap is_some is in
     answered accepted c.in-Ok.bytes.items (record { gave = c.in-Ok.ensures.read; size = c.in-Ok.ensures.size; whole = c.in-Ok.ensures.whole })
-    (given_to_words c.args.command words c.in-Ok.bytes.items c.deref.result.now _ _ c.deref.ensures.value is c.answer_text.ensures)
+    (given_to_words c.args.command words c.in-Ok.bytes.items c.in-Ok.bytes.items _ _ refl is c.answer_text.ensures)
