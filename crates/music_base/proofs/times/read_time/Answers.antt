@@ -15,6 +15,6 @@ returns c = record {
     c.if-not-is_time_text.false,
     ← (rw c.cut-cut.ensures.text at c.digits_of.ensures.value),
     ← (rw c.cut-cut.ensures.text at c.raised.ensures),
-    ← (rw c.cut-cut.ensures.text at c.lowered.ensures)
+    ← (rw c.cut-cut.ensures.text at c.lowered.ensures),
   ) c.scaled.ensures;
 }
