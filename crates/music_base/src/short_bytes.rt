@@ -1,4 +1,4 @@
-ghost use Rattle.std.specs.Prelude.{◌≡◌, [], IfSome};
+ghost use Rattle.std.specs.Prelude.{◌≡◌, ◌<◌, [], length, min, IfNone, IfSome};
 
 use std::marker::Model;
 
@@ -33,7 +33,8 @@ impl<const N: usize> ShortBytes<N> {
     /// A copy of the bytes, where there is room for them. It takes no memory.
     #[inline(always)]
     pub fn from_slice(from: &[u8]) -> Option<ShortBytes<N>>
-        ensures { IfSome result (λ short. short ≡ from.now) }
+        ensures bytes { IfSome result (λ short. short ≡ from.now) }
+        ensures no_room { IfNone result (min N 255 < length from.now) }
     {
         if from.len() > N || from.len() > 255 {
             return None;
