@@ -1,5 +1,4 @@
 pub mod Cutting
-pub mod LineEnd
 pub mod Ends
 pub mod Comments
 pub mod CommentRule

@@ -3,7 +3,7 @@ ghost use Rattle.std.specs.List.{position};
 ghost use Rattle.config_text.specs.Lines.{is_line_feed};
 ghost use Rattle.config_text.specs.Lines.{raw_lines};
 
-use memchr::memchr;
+use music_base::byte_place;
 
 /// The longest text, in bytes.
 pub const LONGEST_TEXT: usize = 1_048_576;
@@ -24,5 +24,5 @@ fn line_end(bytes: &[u8]) -> Option<usize>
     ensures place { result ≡ position is_line_feed bytes.now }
     ensures within { IfSome result (λ end. end < length bytes.now) }
 {
-    memchr(b'\n', bytes)
+    byte_place(b'\n', bytes)
 }

@@ -1,13 +1,13 @@
 //! The parts of a line. They are lent from the line, so that reading a line takes no memory.
 
 ghost use Rattle.std.specs.Prelude.{◌≡◌, ◌==◌, ◌+◌, ◌<◌, ◌≤◌, ◌&&◌, ◌∷◌, ◌++◌, nat_lt, length, IfOk, IfSome, true};
-ghost use Rattle.std.specs.List.{position, position_or_len, list_all, list_any, before_first, after_first};
+ghost use Rattle.std.specs.List.{position_or_len, list_all, list_any, before_first, after_first};
 ghost use Rattle.config_text.specs.Bytes.{close_bracket, is_blank, is_text_byte, is_quote};
 ghost use Rattle.config_text.specs.Parts.{without_cr, before_comment, trimmed, without_leading_blanks, without_trailing_blanks, begins_with_blank, ends_with_blank, ends_in, between_ends, without_last, name_in, is_value};
 ghost use Rattle.config_text.specs.Inner.{Gives};
 
 use crate::TextKind;
-use music_base::is_name;
+use music_base::{byte_place, is_name};
 
 /// The line without one CR at its end.
 pub fn without_cr(line: &[u8]) -> &[u8]
@@ -118,18 +118,12 @@ pub fn has(bytes: &[u8], byte: u8) -> bool
     bytes.iter().any(|b| *b == byte)
 }
 
-fn place(bytes: &[u8], byte: u8) -> Option<usize>
-    ensures { result ≡ position (λ b. b == byte) bytes.now }
-{
-    bytes.iter().position(|b| *b == byte)
-}
-
 #[tactic(auto, using(music_base::proofs::FirstPlaces::place_or_len))]
 fn place_or_len(bytes: &[u8], byte: u8) -> usize
     ensures place { result ≡ position_or_len (λ b. b == byte) bytes.now }
     ensures within { result ≤ length bytes.now }
 {
-    place(bytes, byte).unwrap_or(bytes.len())
+    byte_place(byte, bytes).unwrap_or(bytes.len())
 }
 
 /// What stands before the first such byte, or all of it.
@@ -155,7 +149,7 @@ pub fn after_first(bytes: &[u8], byte: u8) -> &[u8]
 pub fn split_at(bytes: &[u8], byte: u8) -> Option<(&[u8], &[u8])>
     ensures { IfSome result (λ parts. bytes.now ≡ parts.0.now ++ byte ∷ parts.1.now) }
 {
-    match place(bytes, byte) {
+    match byte_place(byte, bytes) {
         None => None,
         Some(place) => Some((&bytes[..place], &bytes[place + 1..])),
     }

@@ -12,3 +12,4 @@ pub mod TimeRange
 pub mod TimeSpelling
 pub mod Transfers
 pub mod WrittenTimes
+pub mod BytePlace

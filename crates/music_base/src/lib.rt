@@ -3,6 +3,7 @@
 #![tactic(auto)]
 
 mod arithmetic;
+mod bytes;
 mod clocks;
 mod copying;
 mod errors;
@@ -26,6 +27,7 @@ mod wants;
 mod word;
 
 pub use arithmetic::{floor_to, gcd};
+pub use bytes::byte_place;
 pub use clocks::{due, steps_of};
 pub use copying::{TryCopy, copy_all};
 pub use errors::{Failed, NoMemory};

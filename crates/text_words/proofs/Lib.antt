@@ -1,4 +1,3 @@
-pub mod BytePlace
 pub mod Cutting
 pub mod Digits
 pub mod Options

@@ -1,17 +1,10 @@
 //! Words cut at a byte. All parts are lent from the word.
 ghost use Rattle.std.specs.Prelude.{◌≡◌, ◌<◌, ◌≤◌, ◌∷◌, length, IfSome, bytes_eq};
-ghost use Rattle.std.specs.List.{position, position_or_len, before_first, after_first};
+ghost use Rattle.std.specs.List.{position_or_len, before_first, after_first};
 ghost use Rattle.std.specs.Option.{option_copied};
 ghost use Rattle.text_words.specs.Parts.{is_byte, parts, parts_left};
 
-use memchr::memchr;
-
-/// Where the first such byte stands.
-pub fn byte_place(byte: u8, bytes: &[u8]) -> Option<usize>
-    ensures { result ≡ position (is_byte byte) bytes.now }
-{
-    memchr(byte, bytes)
-}
+use music_base::byte_place;
 
 /// The part before the first such byte, and what stands behind that byte. Each may be empty.
 #[tactic(auto, using(crate::proofs::Cutting::first_part, crate::proofs::Cutting::only_part))]

@@ -4,7 +4,7 @@ ghost use Rattle.std.specs.List.{position};
 ghost use Rattle.text_words.specs.Words.{is_blank, is_some_list, words, declarations};
 ghost use Rattle.text_words.specs.Parts.{with_some};
 
-use crate::cut::byte_place;
+use music_base::byte_place;
 
 fn blank_place(bytes: &[u8]) -> Option<usize>
     ensures { result ≡ position is_blank bytes.now }

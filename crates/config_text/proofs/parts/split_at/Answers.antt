@@ -5,4 +5,4 @@ use Rattle.config_text.proofs.parts.split_at.Goals as goal
 
 pub returns-in-Some : goal.returns-in-Some
 returns-in-Some c =
-    rw (take_rest c.args.bytes.now (c.in-Some.place + 1)) (cut_at c.args.bytes.now c.args.byte c.in-Some.place c.in-Some.ensures)
+    rw (take_rest c.args.bytes.now (c.in-Some.place + 1)) (cut_at c.args.bytes.now c.args.byte c.in-Some.place c.in-Some.ensures.place)

@@ -3,8 +3,7 @@ use Rattle.std.proofs.Common.{◌≡◌, ℕ, ◌<◌, List, length, Option, Som
 use Rattle.std.specs.List.{position, position_or_len}
 use Rattle.std.proofs.lemmas.Bool.{cases_lt, lt-ltb, le-ltb, true≢false}
 use Rattle.std.proofs.lemmas.List.Sums.{passes_at_first, prefix_len_passes}
-use Rattle.memchr.specs.Find.{IsFirstByte}
-use Rattle.text_words.specs.Parts.{is_byte}
+use Rattle.memchr.specs.Find.{IsFirstByte, is_byte}
 
 pub byte_place_is : (byte : ℕ) (bytes : List ℕ) (r : Option ℕ) → IsFirstByte (is_byte byte) bytes r → r ≡ position (is_byte byte) bytes
 byte_place_is byte bytes None h =
