@@ -15,7 +15,7 @@ use std::alloc::Global;
 /// Potentials with which every wait of the scene under these limits passes its test, one for each application and each
 /// within 10^24 of zero, or a cycle of these waits that is not covered.
 ///
-/// There is one limit for each connection, from 1 to 10^17, or none.
+/// The scene has no fault. There is one limit for each connection, from 1 to 10^17, or none.
 pub fn cover(
     alloc: Global,
     scene: &Scene,

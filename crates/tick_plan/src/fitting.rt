@@ -80,7 +80,7 @@ fn all_pass(potentials: &[i128], waits: &[Wait]) -> bool
 
 /// Whether the plan has one limit and one mark for each connection of the scene and one potential for each application,
 /// each limit from 1 to 10^17 and each potential within 10^24 of zero, and every wait under these limits passes the test of
-/// potentials.
+/// potentials. The scene has no fault.
 pub fn plan_fits(alloc: Global, scene: &Scene, plan: &Plan) -> Result<bool, NoMemory>
     requires { IsFaultless scene.now }
     ensures { IfOk result (λ fits. IsTrue fits ↔ PlanFits scene.now plan.now) }

@@ -40,7 +40,8 @@ fn which_stated(alloc: Global, stated: &[Option<u64>]) -> Result<Vec<bool>, NoMe
 /// the least of 1 or more with which every cycle is covered, of waits for a block, of waits for room under the limits that
 /// are stated or already chosen, and of its own wait for room.
 ///
-/// The scene is refused exactly where some cycle of its waits under stated limits is not covered, with such a cycle.
+/// The scene has no fault. It is refused exactly where some cycle of its waits under stated limits is not covered, with
+/// such a cycle, in which no application waits twice and the first waiter has the least place.
 pub fn negotiate(alloc: Global, scene: &Scene) -> Result<Plan, NegotiateFault>
     requires { IsFaultless scene.now }
     ensures limits { IfOk result (λ plan. AreLimits scene.now plan.limits.items) }
