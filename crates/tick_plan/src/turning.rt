@@ -20,6 +20,7 @@ pub(crate) fn joined(alloc: Global, first: Wait, walk: &[Wait]) -> Result<Vec<Wa
 pub(crate) fn place_awaited(walk: &[Wait], app: AppId) -> Option<usize>
     ensures within { IfSome result (λ k. k < length walk.now) }
     ensures found { IfSome result (λ k. (d : Wait) → (slice_index_or walk.now k d).awaited ≡ app) }
+    ensures first { IfSome result (λ k. All (λ w. w.awaited ≢ app) (take k walk.now)) }
     ensures none { IfNone result (All (λ w. w.awaited ≢ app) walk.now) }
 {
     walk.iter().position(|w| w.awaited == app)
