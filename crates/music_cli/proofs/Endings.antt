@@ -4,7 +4,7 @@ use Rattle.std.specs.Prelude.{Result, IsTrue, IsOk, IfOk, is_some, Contains}
 use Rattle.std.proofs.lemmas.Bool.{and_parts, cases_lt}
 use Rattle.std.proofs.lemmas.List.{take_all}
 use Rattle.std.proofs.Math.Seq.{take-append_seam}
-use Rattle.music_base.specs.Outside.{Gave, TookPrefix, IsAtEnd}
+use Rattle.music_base.specs.Outside.{Gave, GaveAtMost, TookPrefix, IsAtEnd}
 use Rattle.music_base.proofs.Transfers.{TookPrefix-nothing}
 use Rattle.config_text.specs.Canon.{is_lawful_config}
 use Rattle.config_text.specs.FirstForm.{first_form}
@@ -60,6 +60,11 @@ read_of most before (Some left) bytes all gave size end is =
 -- the bytes that were read are the part of the source that counts
 read_is : (source : Ends) (bytes all : List ℕ) → IsRead bytes source → source.before ≡ Some all → bytes ≡ read_part all
 read_is source bytes all read is = read_of most_read source.before source.after bytes all read.gave read.size read.whole is
+
+-- where nothing is read, no more is than may be
+pub reads_nothing : (most : ℕ) (left : Option (List ℕ)) → GaveAtMost most left left
+reads_nothing most None = ([], (refl, omega arith))
+reads_nothing most (Some left) = ([], (refl, omega arith))
 
 -- ---- answers
 

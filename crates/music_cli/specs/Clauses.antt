@@ -1,7 +1,7 @@
 -- What holds of each call of the program, over any source and any sink.
 use Rattle.std.specs.Prelude.{⊤, ◌≡◌, ◌≢◌, ◌⊎◌, ℕ, ◌<◌, ◌≤◌, ◌+◌, true, false, List, [], length, take, Option, Some, Ok, IsTrue, Contains}
 use Rattle.music_base.specs.Causes.{Rose}
-use Rattle.music_base.specs.Outside.{Gave, IsAtEnd, Took, TookPrefix}
+use Rattle.music_base.specs.Outside.{Gave, GaveAtMost, IsAtEnd, Took, TookPrefix}
 use Rattle.config_text.specs.Lines.{longest_text}
 use Rattle.config_text.specs.Text.{Spells}
 use Rattle.config_text.specs.declared.config.Config.{Config}
@@ -99,6 +99,10 @@ IsSomeText words source result text =
 abbrev pub HasSomePrefix : List (List ℕ) → Ends → Ends → ℕ → Type 0
 HasSomePrefix words source sink result = IsTrue (are_accepted words) → ((result ≡ number_of WriteFault) ⊎ (result ≡ number_of NoMemory)) →
     (text : List ℕ) × IsSomeText words source result text × WrotePrefix text sink
+
+-- whatever the answer is, the source gave at most one byte more than the longest text has
+abbrev pub ReadsNoMore : Ends → Type 0
+ReadsNoMore source = GaveAtMost most_read source.before source.after
 
 -- ---- clauses where the source tells its bytes
 

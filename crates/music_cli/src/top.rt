@@ -15,6 +15,7 @@ ghost use Rattle.music_cli.specs.Clauses.{
   IsStatus,
   IsUsage,
   NotUsage,
+  ReadsNoMore,
 };
 
 use crate::answering::answer_text;
@@ -32,9 +33,10 @@ fn follow<S: Source, K: Sink>(
     source: &mut S,
     sink: &mut K,
 ) -> Status
-    ensures { (words : List (List ℕ)) → command_of words ≡ Some command → Ended words
+    ensures ended { (words : List (List ℕ)) → command_of words ≡ Some command → Ended words
         (ends (S.left source.old) (S.left source.new) (S.faults source.old) (S.faults source.new))
         (ends (K.taken sink.old) (K.taken sink.new) (K.faults sink.old) (K.faults sink.new)) result }
+    ensures no_more { ReadsNoMore (ends (S.left source.old) (S.left source.new) (S.faults source.old) (S.faults source.new)) }
 {
     match read_all(alloc, source, MOST_READ) {
         Ok(bytes) => answer_text(alloc, command, bytes, sink),
@@ -50,9 +52,10 @@ fn answer<S: Source, K: Sink>(
     source: &mut S,
     sink: &mut K,
 ) -> Status
-    ensures { Ended (texts words.now)
+    ensures ended { Ended (texts words.now)
         (ends (S.left source.old) (S.left source.new) (S.faults source.old) (S.faults source.new))
         (ends (K.taken sink.old) (K.taken sink.new) (K.faults sink.old) (K.faults sink.new)) result }
+    ensures no_more { ReadsNoMore (ends (S.left source.old) (S.left source.new) (S.faults source.old) (S.faults source.new)) }
 {
     match command_of(words) {
         Some(command) => follow(alloc, command, source, sink),
@@ -94,6 +97,8 @@ pub fn music_alone<S: Source, K: Sink>(
     ensures some_prefix { HasSomePrefix (texts words.now.items)
         (ends (S.left source.old) (S.left source.new) (S.faults source.old) (S.faults source.new))
         (ends (K.taken sink.old) (K.taken sink.new) (K.faults sink.old) (K.faults sink.new)) result }
+    ensures reads_no_more { ReadsNoMore
+        (ends (S.left source.old) (S.left source.new) (S.faults source.old) (S.faults source.new)) }
 
     // where the source tells its bytes
     ensures answers { HasAnswer (texts words.now.items)
@@ -140,6 +145,8 @@ pub fn music<R: Threads + Wait + Sync, S: Source, K: Sink, G: Gate>(
     ensures some_prefix { HasSomePrefix (texts words.now.items)
         (ends (S.left source.old) (S.left source.new) (S.faults source.old) (S.faults source.new))
         (ends (K.taken sink.old) (K.taken sink.new) (K.faults sink.old) (K.faults sink.new)) result }
+    ensures reads_no_more { ReadsNoMore
+        (ends (S.left source.old) (S.left source.new) (S.faults source.old) (S.faults source.new)) }
 
     // where the source tells its bytes
     ensures answers { HasAnswer (texts words.now.items)

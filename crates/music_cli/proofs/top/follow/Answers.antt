@@ -5,8 +5,8 @@ use Rattle.music_cli.specs.Clauses.{answered}
 use Rattle.music_cli.proofs.Endings.{given_to_words}
 use Rattle.music_cli.proofs.top.follow.Goals as goal
 
-pub returns-in-Ok : goal.returns-in-Ok
-returns-in-Ok g c words is =
+pub returns-in-Ok-clause-ended : goal.returns-in-Ok-clause-ended
+returns-in-Ok-clause-ended g c words is =
     let accepted : are_accepted words ≡ true = ap is_some is in
     answered accepted c.in-Ok.bytes.items (record { gave = c.in-Ok.ensures.read; size = c.in-Ok.ensures.size; whole = c.in-Ok.ensures.whole })
     (given_to_words c.args.command words c.in-Ok.bytes.items c.in-Ok.bytes.items _ _ refl is c.answer_text.ensures)
