@@ -14,9 +14,12 @@ gcd_within_is zero a b lt = absurd (omega arith)
 gcd_within_is (suc n) a zero lt = IsGcd-from_zero a 0 refl
 gcd_within_is (suc n) a (suc b) lt = IsGcd-from_mod a (suc b) _ (gcd_within_is n (suc b) (a % suc b) (omega arith))
 
-pub gcd_is : (a b g : ℕ) → IsGcd a b g → g ≡ gcd a b
+pub gcd-divides : (a b : ℕ) → IsGcd a b (gcd a b)
 unfolding gcd
-gcd_is a b g is = same_from_IsGcd a b g (gcd_within (suc b) a b) is (gcd_within_is (suc b) a b (omega arith))
+gcd-divides a b = gcd_within_is (suc b) a b (omega arith)
+
+pub gcd_is : (a b g : ℕ) → IsGcd a b g → g ≡ gcd a b
+gcd_is a b g is = same_from_IsGcd a b g (gcd a b) is (gcd-divides a b)
 
 -- ---- the numbers that pass are those below r
 

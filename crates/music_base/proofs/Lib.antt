@@ -5,6 +5,7 @@ pub mod FirstPlaces
 pub mod Fraction
 pub mod Lists
 pub mod Ordered
+pub mod Rounding
 pub mod Scaling
 pub mod TimeForm
 pub mod TimeLaws

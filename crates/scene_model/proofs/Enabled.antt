@@ -20,7 +20,8 @@ use Rattle.scene_model.proofs.Searching.{search_below}
 use Rattle.scene_model.proofs.SceneWaits.{EachPasses}
 use Rattle.scene_model.proofs.Sound.{lawful_sound}
 use Rattle.scene_model.proofs.Wanted.{wanted_before-le, wanted_before-at_most, wanted-at_most, below_wanted, past_wanted}
-use Rattle.scene_model.proofs.Multiples.{gcd-divides, block_apart, room_apart, less_value}
+use Rattle.music_base.proofs.Counting.{gcd-divides}
+use Rattle.scene_model.proofs.Multiples.{block_apart, room_apart, less_value}
 
 -- ---- what an unfinished application waits for
 

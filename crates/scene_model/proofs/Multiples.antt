@@ -1,23 +1,11 @@
--- Multiples of a common divisor, and rounding down to them.
-use Rattle.std.proofs.Common.{◌≡◌, ℕ, zero, suc, ◌+◌, ◌*◌, ◌%◌, ◌<◌, ◌≤◌, refl, sym, ◌⊎◌, inl, inr, arith, ℤ, pos, negsuc, ◌+ℤ◌, ◌-ℤ◌, ◌*ℤ◌}
+-- Multiples of a common divisor, and clocks that are such multiples.
+use Rattle.std.proofs.Common.{◌≡◌, ℕ, suc, ◌+◌, ◌*◌, ◌<◌, ◌≤◌, refl, sym, ◌⊎◌, inl, inr, arith, ℤ, pos, negsuc, ◌+ℤ◌, ◌-ℤ◌, ◌*ℤ◌}
 use Rattle.std.specs.Prelude.{◌<ℤ◌, ◌≤ℤ◌}
-use Rattle.std.specs.Int.{IsGcd}
 use Rattle.std.proofs.lemmas.Bool.{cases_lt}
 use Rattle.std.proofs.lemmas.Int.{ints, by_lt_z}
-use Rattle.std.proofs.lemmas.Nat.Gcd.{IsGcd-from_mod, IsGcd-from_zero}
 use Rattle.std.proofs.Math.Nat.{mul-le-mul_left, mul-le-mul_right, mul_assoc}
-use Rattle.music_base.specs.Numbers.{gcd, gcd_within, floor_div, floor_to}
-
--- ---- the greatest common divisor
-
-gcd_within-divides : (n a b : ℕ) → suc b ≤ n → IsGcd a b (gcd_within n a b)
-gcd_within-divides zero a b few = absurd (omega arith)
-gcd_within-divides (suc n) a zero few = IsGcd-from_zero a zero refl
-gcd_within-divides (suc n) a (suc b) few = IsGcd-from_mod a (suc b) (gcd_within n (suc b) (a % suc b)) (gcd_within-divides n (suc b) (a % suc b) (omega arith))
-
-pub gcd-divides : (a b : ℕ) → IsGcd a b (gcd a b)
-unfolding gcd
-gcd-divides a b = gcd_within-divides (suc b) a b (omega arith)
+use Rattle.music_base.specs.Numbers.{floor_div, floor_to}
+use Rattle.music_base.proofs.Rounding.{floor_to-le, floor_to-near}
 
 -- ---- multiples of g are g apart
 
@@ -34,16 +22,6 @@ signed_apart g x y (pos m) lt = let n : (x + m) * g < y * g = omega (arith, ints
 signed_apart g x y (negsuc m) lt = let n : x * g < (y + suc m) * g = omega (arith, ints) in let r : x * g + g ≤ (y + suc m) * g = multiples_apart g x (y + suc m) n in omega (arith, ints)
 
 -- ---- rounding down
-
-pub floor_to-le : (g : ℕ) (x : ℤ) → 0 < g → floor_to g x ≤ℤ x
-unfolding floor_to
-floor_to-le g (pos a) some = omega (arith, ints)
-floor_to-le g (negsuc a) some = omega (arith, ints)
-
-pub floor_to-near : (g : ℕ) (x : ℤ) → 0 < g → x <ℤ (floor_to g x +ℤ pos g)
-unfolding floor_to
-floor_to-near g (pos a) some = omega (arith, ints)
-floor_to-near g (negsuc a) some = omega (arith, ints)
 
 -- where one multiple and z lie below another, the other is g above the one and z rounded down
 rounded_below : (g x y : ℕ) (z : ℤ) → 0 < g → (pos (x * g) +ℤ z) <ℤ pos (y * g) → ((pos (x * g) +ℤ floor_to g z) +ℤ pos g) ≤ℤ pos (y * g)

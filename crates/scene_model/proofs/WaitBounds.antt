@@ -15,7 +15,8 @@ use Rattle.scene_model.specs.Scenes.{receiver, sender}
 use Rattle.scene_model.specs.Waits.{IsLawfulLimit, Limits, block_wait, common_divisor, greatest_limit, room_wait, rounded, waits}
 use Rattle.scene_model.specs.declared.scene.Scene.{Scene}
 use Rattle.scene_model.proofs.Bounds.{IsTimed, allowance_at, timed_at}
-use Rattle.scene_model.proofs.Multiples.{floor_to-le, floor_to-near, gcd-divides}
+use Rattle.music_base.proofs.Counting.{gcd-divides}
+use Rattle.music_base.proofs.Rounding.{floor_to-le, floor_to-near}
 use Rattle.scene_model.proofs.SceneWaits.{All-waits, All-waits_of}
 
 -- what both ticks are multiples of is at most the receiver's tick
