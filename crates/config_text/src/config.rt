@@ -3,7 +3,7 @@ ghost use Rattle.std.specs.Option.{option_copied};
 ghost use Rattle.config_text.specs.Lookup.{looked_up};
 
 use crate::{Links, Sections, Settings};
-use music_base::{Name, NoMemory, TryCopy, Word};
+use music_base::{Name, NoMemory, Word};
 use std::alloc::Global;
 
 /// A configuration: default settings, sections with settings of their own, and connections.
@@ -24,19 +24,6 @@ impl Config {
             sections: Sections::new(alloc),
             links: Links::new(alloc),
         }
-    }
-}
-
-impl TryCopy for Config {
-    fn copy(&self, alloc: Global) -> Result<Config, NoMemory> {
-        let defaults = self.defaults.copy(alloc)?;
-        let sections = self.sections.copy(alloc)?;
-        let links = self.links.copy(alloc)?;
-        Ok(Config {
-            defaults,
-            sections,
-            links,
-        })
     }
 }
 

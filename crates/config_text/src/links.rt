@@ -3,7 +3,7 @@ ghost use Rattle.config_text.specs.Connections.{is_width, is_link};
 ghost use Rattle.config_text.specs.Lawful.{are_links};
 
 use crate::LinkText;
-use music_base::{NoMemory, TryCopy, copy_all};
+use music_base::{NoMemory};
 use std::alloc::Global;
 use std::marker::Model;
 
@@ -76,12 +76,5 @@ impl Links {
         lawful(&link);
         self.items.push(link)?;
         Ok(())
-    }
-}
-
-impl TryCopy for Links {
-    fn copy(&self, alloc: Global) -> Result<Links, NoMemory> {
-        let items = copy_all(alloc, self.items.as_slice())?;
-        Ok(Links { items })
     }
 }

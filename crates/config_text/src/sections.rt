@@ -7,7 +7,7 @@ ghost use Rattle.config_text.specs.Parts.{is_value};
 
 use crate::Settings;
 use indexmap::IndexMap;
-use music_base::{Name, NoMemory, TryCopy, Word};
+use music_base::{Name, NoMemory, Word};
 use std::alloc::Global;
 use std::marker::Model;
 
@@ -131,18 +131,5 @@ impl Sections {
         if let Some(settings) = self.entries.last_mut() {
             settings.shrink_to_fit();
         }
-    }
-}
-
-impl TryCopy for Sections {
-    fn copy(&self, alloc: Global) -> Result<Sections, NoMemory> {
-        let mut copied = Sections::new(alloc);
-        for place in 0..self.len() {
-            let (name, settings) = self.pair_at(place);
-            let name = name.copy(alloc)?;
-            let settings = settings.copy(alloc)?;
-            copied.push(name, settings)?;
-        }
-        Ok(copied)
     }
 }

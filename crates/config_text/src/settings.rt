@@ -6,7 +6,7 @@ ghost use Rattle.config_text.specs.Lawful.{are_settings};
 ghost use Rattle.config_text.specs.Parts.{is_value};
 
 use indexmap::IndexMap;
-use music_base::{Name, NoMemory, TryCopy, Word};
+use music_base::{Name, NoMemory, Word};
 use std::alloc::Global;
 use std::marker::Model;
 
@@ -111,18 +111,5 @@ impl Settings {
         ensures { self.new ≡ self.old }
     {
         self.entries.shrink_to_fit();
-    }
-}
-
-impl TryCopy for Settings {
-    fn copy(&self, alloc: Global) -> Result<Settings, NoMemory> {
-        let mut copied = Settings::new(alloc);
-        for place in 0..self.len() {
-            let (name, value) = self.pair_at(place);
-            let name = name.copy(alloc)?;
-            let value = value.copy(alloc)?;
-            copied.push(name, value)?;
-        }
-        Ok(copied)
     }
 }

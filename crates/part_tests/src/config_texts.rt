@@ -5,7 +5,7 @@ use config_text::TextKind::{
     TooManySections,
 };
 use config_text::{Config, TextFault, TextKind, lookup, read_config, write_config};
-use music_base::{Name, NoMemory, TryCopy, Word, is_name};
+use music_base::{Name, NoMemory, Word, is_name};
 use std::alloc::{AllocError, Global};
 use std::process::Abort;
 
@@ -139,29 +139,6 @@ fn is_spelled_as(alloc: Global, text: &[u8], canonical: &[u8]) -> Result<bool, T
     Ok(is_respelled_as(alloc, text, canonical)? && is_respelled_as(alloc, canonical, canonical)?)
 }
 
-fn copied(alloc: Global, config: &Config) -> Result<Config, TextFault> {
-    match config.copy(alloc) {
-        Ok(copy) => Ok(copy),
-        Err(NoMemory) => Err(TextFault::Memory),
-    }
-}
-
-// A copy of what the text spells.
-fn copy_read(alloc: Global, text: &[u8]) -> Result<Config, TextFault> {
-    let config = read_config(alloc, text)?;
-    copied(alloc, &config)
-}
-
-fn copy_spelled(alloc: Global, text: &[u8]) -> Result<Vec<u8>, TextFault> {
-    let copy = copy_read(alloc, text)?;
-    spelled(alloc, &copy)
-}
-
-fn copy_is_spelled_as(alloc: Global, text: &[u8], canonical: &[u8]) -> Result<bool, TextFault> {
-    let bytes = copy_spelled(alloc, text)?;
-    Ok(bytes.as_slice() == canonical)
-}
-
 // The fault of the text, where it is not read and written.
 fn fault_of(alloc: Global, text: &[u8]) -> Option<TextFault> {
     respelled(alloc, text).err()
@@ -276,14 +253,4 @@ fn a_setting_of_a_section_hides_the_default(rt: HostRuntime) -> Result<(), TextF
     let config = read_config(rt.alloc(), TWO_SECTIONS)?;
     values_hold(&rt, rt.alloc(), &config);
     Ok(())
-}
-
-#[test]
-fn a_copy_is_written_as_the_first(rt: HostRuntime) {
-    for (text, canonical) in SPELLED {
-        assert!(rt;
-            copy_is_spelled_as(rt.alloc(), text, canonical) == Ok(true),
-            "{text:?}"
-        );
-    }
 }
