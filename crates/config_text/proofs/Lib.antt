@@ -30,5 +30,3 @@ pub mod CanonFree
 pub mod Canonical
 pub mod SettingLine
 pub mod Written
-pub mod NoLines
-pub mod Times

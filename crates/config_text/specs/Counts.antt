@@ -11,7 +11,3 @@ is_count text = nat_le 1 (length text) && list_all is_ascii_digit text
 -- the number that digits write, where it is at most so much
 abbrev pub value_up_to : ℕ → List ℕ → Option ℕ
 value_up_to most digits = if nat_le (digits_value 10 digits) most then Some (digits_value 10 digits) else None
-
--- a count of at most so much
-abbrev pub count_up_to : ℕ → List ℕ → Option ℕ
-count_up_to most text = if is_count text then value_up_to most text else None

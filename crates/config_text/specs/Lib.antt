@@ -10,9 +10,3 @@ pub mod Lawful
 pub mod Canon
 pub mod Lookup
 pub mod Inner
-pub mod FormWords
-pub mod FormLines
-pub mod FirstForm
-pub mod LawfulForm
-pub mod FormViews
-pub mod SmallForms

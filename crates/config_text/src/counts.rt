@@ -1,10 +1,10 @@
 //! Counts: numbers as decimal digits.
 
-ghost use Rattle.std.specs.Prelude.{◌≡◌, ◌≤◌, ◌<◌, IfSome, MatchOption, true};
+ghost use Rattle.std.specs.Prelude.{◌≡◌, ◌≤◌, ◌<◌, MatchOption, true};
 ghost use Rattle.std.specs.List.{list_all};
 ghost use Rattle.std.specs.Char.{is_ascii_digit};
 ghost use Rattle.std.specs.Str.Parse.{digits_value};
-ghost use Rattle.config_text.specs.Counts.{is_count, value_up_to, count_up_to};
+ghost use Rattle.config_text.specs.Counts.{is_count, value_up_to};
 
 fn are_digits(text: &[u8]) -> bool
     ensures { result ≡ list_all is_ascii_digit text.now }
@@ -33,16 +33,4 @@ pub fn value_up_to(most: u32, digits: &[u8]) -> Option<u32>
         }
     }
     Some(value as u32)
-}
-
-/// A count of at most so much.
-pub fn count_up_to(most: u32, text: &[u8]) -> Option<u32>
-    ensures count { result ≡ count_up_to most text.now }
-    ensures most { IfSome result (λ count. count ≤ most) }
-{
-    if is_count(text) {
-        value_up_to(most, text)
-    } else {
-        None
-    }
 }

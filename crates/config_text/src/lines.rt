@@ -1,14 +1,16 @@
+//! The lines of a text.
+
 ghost use Rattle.std.specs.Prelude.{◌≡◌, ◌∷◌, ◌<◌, length, IfSome};
 ghost use Rattle.std.specs.List.{position};
-ghost use Rattle.config_text.specs.Lines.{is_line_feed};
-ghost use Rattle.config_text.specs.Lines.{raw_lines};
+ghost use Rattle.config_text.specs.Lines.{is_line_feed, raw_lines};
 
 use music_base::byte_place;
 
-/// The longest text, in bytes.
+/// How many bytes a text may have.
 pub const LONGEST_TEXT: usize = 1_048_576;
 
-/// The first line, and what stands after its line end.
+/// The first line of a text that is not empty, and what stands after its line end. The LF is in neither; a last line
+/// needs none.
 pub fn split_line(bytes: &[u8]) -> (&[u8], &[u8])
     requires { 0 < length bytes.now }
     ensures lines { raw_lines bytes.now ≡ result.0.now ∷ raw_lines result.1.now }

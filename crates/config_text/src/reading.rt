@@ -20,7 +20,7 @@ use music_base::{Name, NoMemory, Word};
 use std::alloc::Global;
 
 /// Why a line was not read into the configuration.
-#[derive(Debug, Drop)]
+#[derive(Clone, Copy)]
 pub enum LineFault {
     Fault(TextKind),
     Memory,

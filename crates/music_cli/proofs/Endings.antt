@@ -7,13 +7,13 @@ use Rattle.std.proofs.Math.Seq.{take-append_seam}
 use Rattle.music_base.specs.Outside.{Gave, GaveAtMost, TookPrefix, IsAtEnd}
 use Rattle.music_base.proofs.Transfers.{TookPrefix-nothing}
 use Rattle.config_text.specs.Canon.{is_lawful_config}
-use Rattle.config_text.specs.FirstForm.{first_form}
+use Rattle.plain_run.specs.FirstForm.{first_form}
 use Rattle.config_text.specs.Lawful.{are_links, are_sections, are_settings}
 use Rattle.config_text.specs.Text.{Spells}
 use Rattle.config_text.specs.declared.config.Config.{Config}
 use Rattle.config_text.proofs.OneReading.{some_reading, apart}
 use Rattle.config_text.proofs.SpelledLaws.{spelled_lawful}
-use Rattle.config_text.specs.declared.form.FirstForm.{FirstForm}
+use Rattle.plain_run.specs.declared.form.FirstForm.{FirstForm}
 use Rattle.config_text.specs.declared.text_kind.TextKind.{TextKind}
 use Rattle.scene_model.specs.Faults.{IsFaultless}
 use Rattle.scene_model.specs.Logs.{log_of}

@@ -1,10 +1,10 @@
 -- The status and the text that words and bytes get.
 use Rattle.std.specs.Prelude.{◌≡◌, ◌⊎◌, ℕ, List, [], ◌∷◌, ◌++◌, length, Option, Some, None, Result, Ok, Err, IsOk, codes}
 use Rattle.std.specs.Fmt.{decimal}
-use Rattle.config_text.specs.FirstForm.{first_form}
+use Rattle.plain_run.specs.FirstForm.{first_form}
 use Rattle.config_text.specs.Text.{Spells, HasFault}
 use Rattle.config_text.specs.declared.config.Config.{Config}
-use Rattle.config_text.specs.declared.form.FirstForm.{FirstForm}
+use Rattle.plain_run.specs.declared.form.FirstForm.{FirstForm}
 use Rattle.config_text.specs.declared.text_kind.TextKind.{TextKind}
 use Rattle.scene_model.specs.Cover.{IsTold}
 use Rattle.scene_model.specs.Logs.{line_end, log_of}

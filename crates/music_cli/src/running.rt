@@ -1,16 +1,16 @@
 //! The command `run`.
 ghost use Rattle.std.specs.Prelude.{◌≡◌};
-ghost use Rattle.config_text.specs.FirstForm.{first_form};
-ghost use Rattle.config_text.specs.LawfulForm.{IsLawfulForm};
+ghost use Rattle.plain_run.specs.FirstForm.{first_form};
+ghost use Rattle.plain_run.specs.LawfulForm.{IsLawfulForm};
 ghost use Rattle.music_cli.specs.Answers.{AnswersForm};
 ghost use Rattle.music_cli.specs.Clauses.{ends, IsGiven};
 
 use crate::Status;
 use crate::saying::refuse;
-use config_text::{FirstForm, TextFault, first_form};
+use config_text::TextFault;
 use music_base::Sink;
 use music_setup::SetupFault;
-use plain_run::{plain_rows, scene_of};
+use plain_run::{FirstForm, first_form, plain_rows, scene_of};
 use run_logs::{WriteFault, write_rows};
 use std::alloc::Global;
 

@@ -1,13 +1,13 @@
 //! Calls that ask for memory, where there is enough of it.
 ghost use Rattle.std.specs.Prelude.{◌≡◌, true};
 ghost use Rattle.std.specs.List.{list_all};
-ghost use Rattle.config_text.specs.LawfulForm.{IsLawfulForm};
+ghost use Rattle.plain_run.specs.LawfulForm.{IsLawfulForm};
 ghost use Rattle.scene_model.specs.Logs.{is_writable};
 
 use crate::texts::{SPIKES, SPIKES_LOG, blanks};
-use config_text::{FirstForm, TextFault, TextKind, first_form};
+use config_text::{TextFault, TextKind};
 use music_base::{MemorySink, MemorySource, NoMemory, read_all};
-use plain_run::{plain_rows, scene_of};
+use plain_run::{FirstForm, first_form, plain_rows, scene_of};
 use run_logs::write_rows;
 use scene_model::{Row, Scene};
 use std::alloc::Global;

@@ -1,6 +1,6 @@
 //! Copies, which show the same as what was copied.
-use crate::texts::{EVERY_RULE, SPIKES};
-use config_text::{first_form, read_config};
+use crate::texts::EVERY_RULE;
+use config_text::read_config;
 use music_base::{
     AppId, Block, Event, Item, Items, Message, Nanos, NoMemory, PortId, Rank, Sample, TryCopy,
     Word, copy_all,
@@ -58,13 +58,6 @@ fn block_copies(alloc: Global) -> Result<bool, NoMemory> {
     copies(alloc, &Block { number: 4, items })
 }
 
-fn form_copies(alloc: Global) -> bool {
-    match first_form(alloc, SPIKES) {
-        Ok(form) => copies(alloc, &form) == Ok(true),
-        Err(_) => false,
-    }
-}
-
 fn row_copies(alloc: Global, item: RowItem) -> Result<bool, NoMemory> {
     let row = Row {
         clock: Nanos(10),
@@ -99,8 +92,7 @@ fn items_and_blocks_are_copied(rt: HostRuntime) {
 }
 
 #[test]
-fn forms_and_scenes_are_copied(rt: HostRuntime) {
-    assert!(rt; form_copies(rt.alloc()));
+fn scenes_are_copied(rt: HostRuntime) {
     assert!(rt; scene_copies(rt.alloc()));
 }
 

@@ -9,8 +9,8 @@ use Rattle.music_base.specs.Clocks.{steps_until, due_step}
 use Rattle.music_base.specs.Numbers.{below}
 use Rattle.music_base.proofs.Lists.{All-of, filter-none, filter-map, filter-range_with_len_front, list_all-map, map-map}
 use Rattle.music_base.specs.Times.{greatest_time}
-use Rattle.config_text.specs.LawfulForm.{IsTick, IsLawfulForm}
-use Rattle.config_text.specs.declared.form.FirstForm.{FirstForm}
+use Rattle.plain_run.specs.LawfulForm.{IsTick, IsLawfulForm}
+use Rattle.plain_run.specs.declared.form.FirstForm.{FirstForm}
 use Rattle.scene_model.specs.Logs.{is_writable}
 use Rattle.scene_model.specs.Turns.{times_below}
 use Rattle.scene_model.proofs.Times.{lt-times_below}

@@ -6,7 +6,7 @@ use Rattle.music_base.specs.Clocks.{steps_until}
 use Rattle.music_base.specs.Numbers.{below}
 use Rattle.music_base.specs.declared.item.Item.{Item}
 use Rattle.music_base.proofs.Lists.{map-agree}
-use Rattle.config_text.specs.declared.form.FirstForm.{FirstForm}
+use Rattle.plain_run.specs.declared.form.FirstForm.{FirstForm}
 use Rattle.scene_model.specs.declared.scene.Scene.{Scene}
 use Rattle.scene_model.specs.Clocks.{tick, steps}
 use Rattle.scene_model.specs.Tables.{Table, StepOutput}

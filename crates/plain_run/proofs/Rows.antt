@@ -15,7 +15,7 @@ use Rattle.music_base.specs.declared.item.Item.{Item}
 use Rattle.music_base.proofs.Lists.{map-map, map-filter_agree, map-flat_map, filter-map, filter-filter, flat_map-none, flat_map-map_filter, flat_map-filter_single, flat_map-agree_within}
 use Rattle.music_base.proofs.Ordered.{Pairwise, Pairwise-weaker, Pairwise-filter, Pairwise-map, progression-ascends, in_order-same, pieces}
 use Rattle.index_maps.specs.Maps.{maps_index}
-use Rattle.config_text.specs.declared.form.FirstForm.{FirstForm}
+use Rattle.plain_run.specs.declared.form.FirstForm.{FirstForm}
 use Rattle.scene_model.specs.Scenes.{sender, receiver, input_of, links_to}
 use Rattle.scene_model.specs.Clocks.{tick, steps, latency, due}
 use Rattle.scene_model.specs.Tables.{Sent, sent_cmp, arrives, block_on, coming, arrivals}

@@ -5,7 +5,7 @@ use Rattle.music_base.specs.Clocks.{steps_until, due_step}
 use Rattle.music_base.specs.Numbers.{below}
 use Rattle.index_maps.specs.declared.map.IndexMap.TheVariants.{Linear}
 use Rattle.index_maps.specs.declared.map.PortMap.TheVariants.{Each}
-use Rattle.config_text.specs.declared.form.FirstForm.{FirstForm}
+use Rattle.plain_run.specs.declared.form.FirstForm.{FirstForm}
 use Rattle.scene_model.specs.Turns.{times_below}
 use Rattle.scene_model.specs.declared.scene.Scene.{Scene}
 use Rattle.scene_model.specs.declared.scene.AppDecl.{AppDecl}

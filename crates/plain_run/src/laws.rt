@@ -1,5 +1,5 @@
 ghost use Rattle.std.specs.Prelude.{◌≡◌, ◌≤◌};
-ghost use Rattle.config_text.specs.declared.form.FirstForm.{FirstForm};
+ghost use Rattle.plain_run.specs.declared.form.FirstForm.{FirstForm};
 ghost use Rattle.scene_model.specs.Lives.{history};
 ghost use Rattle.scene_model.specs.Logs.{rows};
 ghost use Rattle.plain_run.specs.Plain.{scene_of, plain_rows};

@@ -1,14 +1,14 @@
 ghost use Rattle.std.specs.Prelude.{◌≡◌, ◌≤◌, ◌<◌, ◌*◌, ◌^◌, true, IfOk};
 ghost use Rattle.std.specs.List.{list_all};
 ghost use Rattle.music_base.specs.Clocks.{steps_until};
-ghost use Rattle.config_text.specs.LawfulForm.{IsTick, IsLawfulForm};
+ghost use Rattle.plain_run.specs.LawfulForm.{IsTick, IsLawfulForm};
 ghost use Rattle.scene_model.specs.Lives.{history};
 ghost use Rattle.scene_model.specs.Logs.{is_writable, rows};
 ghost use Rattle.scene_model.specs.Turns.{times_below};
 ghost use Rattle.plain_run.specs.Plain.{scene_of, event_time, maps_events, row_count, row_of};
 
+use crate::FirstForm;
 use crate::scene::{PORT, SINK};
-use config_text::FirstForm;
 use music_base::{Items, Nanos, NoMemory, Rank, due, steps_of};
 use scene_model::{Row, RowItem};
 use std::alloc::Global;

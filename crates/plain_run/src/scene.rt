@@ -1,8 +1,9 @@
-ghost use Rattle.std.specs.Prelude.{◌≡◌, IfOk};
-ghost use Rattle.config_text.specs.LawfulForm.{IsSpan, IsLawfulForm};
+ghost use Rattle.std.specs.Prelude.{◌≡◌, ◌∷◌, [], IfOk};
+ghost use Rattle.scene_model.specs.declared.rule.Rule.TheVariants.{EmitEvery};
+ghost use Rattle.plain_run.specs.LawfulForm.{IsSpan, IsLawfulForm};
 ghost use Rattle.plain_run.specs.Plain.{event_port, source, sink, scene_of};
 
-use config_text::FirstForm;
+use crate::FirstForm;
 use index_maps::{IndexMap, PortMap, Span};
 use music_base::{AppId, Items, Name, Nanos, NoMemory, PortId, TryCopy};
 use scene_model::{AppDecl, Direction, Link, PortDecl, PortKind, Rule, Scene};
@@ -41,20 +42,26 @@ fn event_port(
     })
 }
 
-#[tactic(auto, unfolding(crate::specs::Plain::source))]
-fn source(alloc: Global, form: &FirstForm) -> Result<AppDecl, NoMemory>
-    requires { IsSpan form.now.from_base form.now.from_size }
-    ensures { IfOk result (λ app. app ≡ source form.now) }
+/// The one port of an application, as its list of ports.
+fn one_port(
+    alloc: Global,
+    direction: Direction,
+    name: &Name,
+    base: u32,
+    size: u32,
+) -> Result<Items<PortDecl>, NoMemory>
+    requires { IsSpan base size }
+    ensures { IfOk result (λ ports. ports ≡ event_port direction name.now base size ∷ []) }
 {
-    let name = form.from.copy(alloc)?;
     let mut ports = Items::new(alloc);
-    ports.push(event_port(
-        alloc,
-        Direction::Output,
-        &form.from_port,
-        form.from_base,
-        form.from_size,
-    )?)?;
+    ports.push(event_port(alloc, direction, name, base, size)?)?;
+    Ok(ports)
+}
+
+/// The one rule of the source, as its list of rules.
+fn one_rule(alloc: Global, form: &FirstForm) -> Result<Items<Rule>, NoMemory>
+    ensures { IfOk result (λ rules. rules ≡ EmitEvery form.now.from_port form.now.index form.now.every form.now.first ∷ []) }
+{
     let port = form.from_port.copy(alloc)?;
     let mut rules = Items::new(alloc);
     rules.push(Rule::EmitEvery {
@@ -63,6 +70,17 @@ fn source(alloc: Global, form: &FirstForm) -> Result<AppDecl, NoMemory>
         every: form.every,
         first: form.first,
     })?;
+    Ok(rules)
+}
+
+fn source(alloc: Global, form: &FirstForm) -> Result<AppDecl, NoMemory>
+    requires { IsSpan form.now.from_base form.now.from_size }
+    ensures { IfOk result (λ app. app ≡ source form.now) }
+{
+    let (direction, base, size) = (Direction::Output, form.from_base, form.from_size);
+    let ports = one_port(alloc, direction, &form.from_port, base, size)?;
+    let rules = one_rule(alloc, form)?;
+    let name = form.from.copy(alloc)?;
     Ok(AppDecl {
         name,
         np: 1,
@@ -72,27 +90,19 @@ fn source(alloc: Global, form: &FirstForm) -> Result<AppDecl, NoMemory>
     })
 }
 
-#[tactic(auto, unfolding(crate::specs::Plain::sink))]
 fn sink(alloc: Global, form: &FirstForm) -> Result<AppDecl, NoMemory>
     requires { IsSpan form.now.to_base form.now.to_size }
     ensures { IfOk result (λ app. app ≡ sink form.now) }
 {
+    let (direction, base, size) = (Direction::Input, form.to_base, form.to_size);
+    let ports = one_port(alloc, direction, &form.to_port, base, size)?;
     let name = form.to.copy(alloc)?;
-    let mut ports = Items::new(alloc);
-    ports.push(event_port(
-        alloc,
-        Direction::Input,
-        &form.to_port,
-        form.to_base,
-        form.to_size,
-    )?)?;
-    let rules = Items::new(alloc);
     Ok(AppDecl {
         name,
         np: 1,
         tick: form.to_tick,
         ports,
-        rules,
+        rules: Items::new(alloc),
     })
 }
 

@@ -3,7 +3,7 @@ use Rattle.scene_model.specs.Lives.{history}
 use Rattle.scene_model.specs.Logs.{rows, text_of, log_of}
 use Rattle.scene_model.specs.declared.scene.Scene.{Scene}
 use Rattle.scene_model.specs.declared.row.Row.{Row}
-use Rattle.config_text.specs.declared.form.FirstForm.{FirstForm}
+use Rattle.plain_run.specs.declared.form.FirstForm.{FirstForm}
 use Rattle.plain_run.specs.Plain.{scene_of}
 use Rattle.music_cli.specs.declared.status.Status.TheVariants.{Done}
 use Rattle.music_cli.proofs.running.run_form.Goals as goal

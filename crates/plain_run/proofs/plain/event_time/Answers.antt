@@ -1,5 +1,5 @@
 use Rattle.std.proofs.Common.{◌≤◌, arith, sym, subst}
-use Rattle.config_text.specs.declared.form.FirstForm.{FirstForm}
+use Rattle.plain_run.specs.declared.form.FirstForm.{FirstForm}
 use Rattle.plain_run.specs.Plain.{event_time}
 use Rattle.plain_run.proofs.Counts.{row-known}
 use Rattle.plain_run.proofs.plain.event_time.Goals as goal

@@ -1,55 +1,52 @@
 //! The reader of the first form. It goes over the text once, from the front.
 
-ghost use Rattle.std.specs.Prelude.{◌≡◌, ◌≤◌, ◌<◌, ◌+◌, ◌∷◌, [], length, IfOk, IfErr, IfSome, true};
+ghost use Rattle.std.specs.Prelude.{◌≡◌, ◌≤◌, [], length, drop, get_or, IfOk, IfErr, true};
 ghost use Rattle.std.specs.Result.{result_map_both};
-ghost use Rattle.music_base.specs.Names.{is_name};
-ghost use Rattle.music_base.specs.Times.{greatest_time};
 ghost use Rattle.config_text.specs.Lines.{raw_lines};
-ghost use Rattle.config_text.specs.FirstForm.{next_line, process_lines, source_lines, sink_lines, no_line, last_line, form_from, form_of, first_form, IsFaultOf};
-ghost use Rattle.config_text.specs.FormLines.{most_indices};
-ghost use Rattle.config_text.specs.FormViews.{seen_port, seen_rule, seen_source, seen_sink};
-ghost use Rattle.config_text.specs.LawfulForm.{IsTick, IsPeriod, IsSpan, IsMapped, IsLawfulForm};
+ghost use Rattle.plain_run.specs.FirstForm.{process_lines, source_lines, sink_lines, no_line, last_line, form_from, first_form, IsFaultOf};
+ghost use Rattle.plain_run.specs.FormViews.{seen_source, seen_sink};
+ghost use Rattle.plain_run.specs.LawfulForm.{IsNamed, IsLawfulForm};
 
+use crate::FirstForm;
 use crate::form_lines::{
     PortPart, RulePart, other_section_line, port_line, rule_line, section_line, stop_line,
     tick_line, width_line,
 };
-use crate::lines::{LONGEST_TEXT, split_line};
-use crate::{FirstForm, TextFault, TextKind};
+use config_text::{LONGEST_TEXT, TextFault, TextKind, split_line};
 use music_base::{Name, Nanos, NoMemory};
 use std::alloc::Global;
+use text_words::is_key;
 
-/// The next line, and what stands behind its end; or the number, where there is no line.
-#[tactic(auto, unfolding(crate::specs::FirstForm::next_line))]
-fn next_line(number: u64, text: &[u8]) -> Result<(&[u8], &[u8]), u64>
-    ensures { result_map_both (λ parts. (parts.0.now, raw_lines parts.1.now)) (λ e. e) result ≡ next_line number (raw_lines text.now) }
+/// The next line, and what stands behind its end. Where there is no line it is empty, as no line of the form is.
+fn next_line(text: &[u8]) -> (&[u8], &[u8])
+    ensures line { result.0.now ≡ get_or (raw_lines text.now) 0 [] }
+    ensures left { raw_lines result.1.now ≡ drop 1 (raw_lines text.now) }
 {
     if text.is_empty() {
-        return Err(number);
+        (text, text)
+    } else {
+        split_line(text)
     }
-    Ok(split_line(text))
 }
 
 /// One process, of a script, and its tick.
-#[tactic(auto, unfolding(crate::specs::FirstForm::process_lines))]
 fn process_lines(number: u64, stop: Nanos, text: &[u8]) -> Result<(Nanos, &[u8]), u64>
     requires { number ≤ 9 }
-    ensures read { result_map_both (λ parts. (parts.0, raw_lines parts.1.now)) (λ e. e) result ≡ process_lines number stop (raw_lines text.now) }
-    ensures tick { IfOk result (λ parts. IsTick stop parts.0) }
+    ensures { result_map_both (λ parts. (parts.0, raw_lines parts.1.now)) (λ e. e) result ≡ process_lines number stop (raw_lines text.now) }
 {
-    let (line, text) = next_line(number, text)?;
-    if line != b"np=1".as_slice() {
+    let (np, text) = next_line(text);
+    if !is_key(np, b"np=1") {
         return Err(number);
     }
-    let (line, text) = next_line(number + 1, text)?;
-    if line != b"binary=script".as_slice() {
+    let (binary, text) = next_line(text);
+    if !is_key(binary, b"binary=script") {
         return Err(number + 1);
     }
-    let (line, text) = next_line(number + 2, text)?;
-    let Some(tick) = tick_line(stop, line) else {
-        return Err(number + 2);
-    };
-    Ok((tick, text))
+    let (line, text) = next_line(text);
+    match tick_line(stop, line) {
+        Some(tick) => Ok((tick, text)),
+        None => Err(number + 2),
+    }
 }
 
 /// What lines 1 to 7 say, and the text behind them.
@@ -73,23 +70,14 @@ pub struct SinkPart<'a> {
 }
 
 /// Lines 1 to 7: the stop, and the source with its port and its rule.
-#[tactic(auto, unfolding(crate::specs::FirstForm::source_lines))]
 fn source_lines(text: &[u8]) -> Result<SourcePart<'_>, u64>
-    ensures read { result_map_both seen_source (λ e. e) result ≡ source_lines (raw_lines text.now) }
-    ensures stop { IfOk result (λ source. source.stop ≤ greatest_time) }
-    ensures name { IfOk result (λ source. is_name source.name.now ≡ true) }
-    ensures tick { IfOk result (λ source. IsTick source.stop source.tick) }
-    ensures port { IfOk result (λ source. is_name source.out.name.now ≡ true) }
-    ensures span { IfOk result (λ source. IsSpan source.out.base source.out.size) }
-    ensures index { IfOk result (λ source. IsMapped source.out.base source.out.size source.rule.index) }
-    ensures period { IfOk result (λ source. IsPeriod source.stop source.tick source.rule.every) }
-    ensures first { IfOk result (λ source. source.rule.first ≤ greatest_time) }
+    ensures { result_map_both seen_source (λ e. e) result ≡ source_lines (raw_lines text.now) }
 {
-    let (line, text) = next_line(1, text)?;
+    let (line, text) = next_line(text);
     let Some(stop) = stop_line(line) else {
         return Err(1);
     };
-    let (line, text) = next_line(2, text)?;
+    let (line, text) = next_line(text);
     let Some(name) = section_line(line) else {
         return Err(2);
     };
@@ -97,11 +85,11 @@ fn source_lines(text: &[u8]) -> Result<SourcePart<'_>, u64>
         Ok(process) => process,
         Err(number) => return Err(number),
     };
-    let (line, text) = next_line(6, text)?;
+    let (line, text) = next_line(text);
     let Some(out) = port_line(b"ports=out event ", line) else {
         return Err(6);
     };
-    let (line, left) = next_line(7, text)?;
+    let (line, left) = next_line(text);
     let Some(rule) = rule_line(stop, tick, &out, line) else {
         return Err(7);
     };
@@ -116,15 +104,10 @@ fn source_lines(text: &[u8]) -> Result<SourcePart<'_>, u64>
 }
 
 /// Lines 8 to 12: the sink, of another name, with its port.
-#[tactic(auto, unfolding(crate::specs::FirstForm::sink_lines))]
 fn sink_lines<'a>(source: &SourcePart<'a>) -> Result<SinkPart<'a>, u64>
-    ensures read { result_map_both seen_sink (λ e. e) result ≡ sink_lines (seen_source source.now) }
-    ensures name { IfOk result (λ sink. is_name sink.name.now ≡ true) }
-    ensures tick { IfOk result (λ sink. IsTick source.now.stop sink.tick) }
-    ensures port { IfOk result (λ sink. is_name sink.input.name.now ≡ true) }
-    ensures span { IfOk result (λ sink. IsSpan sink.input.base sink.input.size) }
+    ensures { result_map_both seen_sink (λ e. e) result ≡ sink_lines (seen_source source.now) }
 {
-    let (line, text) = next_line(8, source.left)?;
+    let (line, text) = next_line(source.left);
     let Some(name) = other_section_line(source.name, line) else {
         return Err(8);
     };
@@ -132,7 +115,7 @@ fn sink_lines<'a>(source: &SourcePart<'a>) -> Result<SinkPart<'a>, u64>
         Ok(process) => process,
         Err(number) => return Err(number),
     };
-    let (line, left) = next_line(12, text)?;
+    let (line, left) = next_line(text);
     let Some(input) = port_line(b"ports=in event ", line) else {
         return Err(12);
     };
@@ -152,16 +135,10 @@ fn no_line(number: u64, text: &[u8]) -> Result<(), u64>
 }
 
 /// Line 13, which is the last: the width of the connection.
-#[tactic(auto, unfolding(crate::specs::FirstForm::last_line))]
 fn last_line(source: &SourcePart<'_>, sink: &SinkPart<'_>) -> Result<u32, u64>
-    requires source { IsSpan source.now.out.base source.now.out.size }
-    requires sink { IsSpan sink.now.input.base sink.now.input.size }
-    ensures read { result ≡ last_line (seen_source source.now) (seen_sink sink.now) }
-    ensures covers_source { IfOk result (λ width. source.now.out.base + source.now.out.size ≤ width) }
-    ensures covers_sink { IfOk result (λ width. sink.now.input.base + sink.now.input.size ≤ width) }
-    ensures most { IfOk result (λ width. width ≤ most_indices) }
+    ensures { result ≡ last_line (seen_source source.now) (seen_sink sink.now) }
 {
-    let (line, text) = next_line(13, sink.left)?;
+    let (line, text) = next_line(sink.left);
     let Some(width) = width_line(source.name, &source.out, sink.name, &sink.input, line) else {
         return Err(13);
     };
@@ -176,10 +153,8 @@ fn form_from(
     sink: &SinkPart<'_>,
     width: u32,
 ) -> Result<FirstForm, NoMemory>
-    requires from { is_name source.now.name.now ≡ true }
-    requires from_port { is_name source.now.out.name.now ≡ true }
-    requires to { is_name sink.now.name.now ≡ true }
-    requires to_port { is_name sink.now.input.name.now ≡ true }
+    requires source { IsNamed source.now.name.now source.now.out.name.now }
+    requires sink { IsNamed sink.now.name.now sink.now.input.name.now }
     ensures { IfOk result (λ form. form ≡ form_from (seen_source source.now) (seen_sink sink.now) width) }
 {
     let from = Name::from_slice(alloc, source.name)?;
@@ -241,7 +216,6 @@ fn unbuilt(line: u64) -> TextFault
 ///
 /// A text of more than 1,048,576 bytes is refused as `TooLong` at line 0. Any other is refused as `Unbuilt` at the first
 /// line that is not as shown, where a missing line counts, and a fourteenth is one too many.
-#[tactic(auto, unfolding(crate::specs::FirstForm::first_form, crate::specs::FirstForm::form_of))]
 pub fn first_form(alloc: Global, bytes: &[u8]) -> Result<FirstForm, TextFault>
     ensures form { IfOk result (λ form. first_form bytes.now ≡ Ok form) }
     ensures fault { IfErr result (IsFaultOf (first_form bytes.now)) }

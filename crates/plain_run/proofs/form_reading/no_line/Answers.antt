@@ -1,8 +1,8 @@
 use Rattle.std.proofs.Common.{refl, sym, ◌∙◌, length, arith}
 use Rattle.std.proofs.lemmas.Bool.{eqb-true, eqb-false}
-use Rattle.config_text.specs.FirstForm.{no_line}
-use Rattle.config_text.proofs.NoLines.{raw_lines-nil, no_line-raw_lines}
-use Rattle.config_text.proofs.form_reading.no_line.Goals as goal
+use Rattle.plain_run.specs.FirstForm.{no_line}
+use Rattle.plain_run.proofs.NoLines.{raw_lines-nil, no_line-raw_lines}
+use Rattle.plain_run.proofs.form_reading.no_line.Goals as goal
 
 pub returns-then-is_empty : goal.returns-then-is_empty
 unfolding no_line

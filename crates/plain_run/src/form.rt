@@ -1,5 +1,4 @@
-use music_base::{Name, Nanos, NoMemory, TryCopy};
-use std::alloc::Global;
+use music_base::{Name, Nanos};
 
 /// What a text of the first form says: a source that emits on one port, a sink with one port, and the connection
 /// between them. A port maps `size` indices from `base` on.
@@ -25,30 +24,4 @@ pub struct FirstForm {
     pub to_size: u32,
     /// How many indices the connection carries.
     pub width: u32,
-}
-
-impl TryCopy for FirstForm {
-    fn copy(&self, alloc: Global) -> Result<FirstForm, NoMemory> {
-        let from = self.from.copy(alloc)?;
-        let from_port = self.from_port.copy(alloc)?;
-        let to = self.to.copy(alloc)?;
-        let to_port = self.to_port.copy(alloc)?;
-        Ok(FirstForm {
-            stop: self.stop,
-            from,
-            from_tick: self.from_tick,
-            from_port,
-            from_base: self.from_base,
-            from_size: self.from_size,
-            index: self.index,
-            every: self.every,
-            first: self.first,
-            to,
-            to_tick: self.to_tick,
-            to_port,
-            to_base: self.to_base,
-            to_size: self.to_size,
-            width: self.width,
-        })
-    }
 }

@@ -1,9 +1,10 @@
 -- The limits that the numbers of a first form keep.
-use Rattle.std.specs.Prelude.{ℕ, ◌+◌, ◌<◌, ◌≤◌}
+use Rattle.std.specs.Prelude.{◌≡◌, ℕ, ◌+◌, ◌<◌, ◌≤◌, true, List}
+use Rattle.music_base.specs.Names.{is_name}
 use Rattle.music_base.specs.Clocks.{steps_until}
 use Rattle.music_base.specs.Times.{greatest_time}
-use Rattle.config_text.specs.declared.form.FirstForm.{FirstForm}
-use Rattle.config_text.specs.FormLines.{longest_tick, most_steps, most_periods, most_indices, periods}
+use Rattle.plain_run.specs.declared.form.FirstForm.{FirstForm}
+use Rattle.plain_run.specs.FormLines.{longest_tick, most_steps, most_periods, most_indices, periods}
 
 -- a tick of 1 ns or more, not too long, with which an application does not run too many steps until the stop
 pub record IsTick (stop tick : ℕ) : Type 0 where
@@ -24,6 +25,11 @@ IsSpan base size = base + size ≤ most_indices
 pub record IsMapped (base size index : ℕ) : Type 0 where
   pub from : base ≤ index
   pub to : index < base + size
+
+-- an application and its port have names
+pub record IsNamed (name port_name : List ℕ) : Type 0 where
+  pub app : is_name name ≡ true
+  pub port : is_name port_name ≡ true
 
 -- the limits that the run of a first form needs
 pub record IsLawfulForm (form : FirstForm) : Type 0 where

@@ -1,15 +1,10 @@
 -- The lines of the first form, each by what it says.
-use Rattle.std.specs.Prelude.{ℕ, ◌+◌, ◌*◌, ◌/◌, Bool, ◌&&◌, not, nat_le, nat_lt, nat_eq, List, length, Option, Some, None, bytes_eq, codes}
+use Rattle.std.specs.Prelude.{ℕ, ◌+◌, ◌*◌, ◌/◌, Bool, ◌&&◌, not, nat_le, nat_lt, nat_eq, List, length, Option, Some, bytes_eq, codes}
 use Rattle.std.specs.Str.{byte}
 use Rattle.music_base.specs.Clocks.{steps_until}
-use Rattle.config_text.specs.FormWords.{◌when◌, cut_at, behind, name_in, time_in}
-use Rattle.config_text.specs.Counts.{count_up_to}
-
--- the steps read on with the next word; where one is missing nothing is said
-infixl 10 ◌>>=◌
-abbrev pub ◌>>=◌ : {A B : Type 0} → Option A → (A → Option B) → Option B
-None >>= f = None
-(Some x) >>= f = f x
+use Rattle.text_words.specs.Counts.{count_up_to}
+use Rattle.text_words.specs.Options.{◌>>=◌, ◌when◌}
+use Rattle.plain_run.specs.FormWords.{cut_at, behind, time_in, name_before, time_behind}
 
 -- ---- limits
 
@@ -35,9 +30,8 @@ greatest_index = 65535
 unfoldable pub section_line : List ℕ → Option (List ℕ)
 section_line line = do
   text ← behind (codes "[") line
-  parts ← cut_at (byte "]") text
-  name ← name_in parts.0
-  name when nat_eq (length parts.1) 0
+  name ← name_before (byte "]") text
+  name.0 when nat_eq (length name.1) 0
 
 -- [NAME], with another name
 unfoldable pub other_section_line : List ℕ → List ℕ → Option (List ℕ)
@@ -49,9 +43,7 @@ other_section_line other line = do
 
 -- stoptime=TIME
 unfoldable pub stop_line : List ℕ → Option ℕ
-stop_line line = do
-  text ← behind (codes "stoptime=") line
-  time_in text
+stop_line line = time_behind (codes "stoptime=") line
 
 -- a tick of 1 ns or more, not too long, with which the application does not run too many steps
 unfoldable pub is_tick : ℕ → ℕ → Bool
@@ -60,8 +52,7 @@ is_tick stop tick = nat_le 1 tick && nat_le tick longest_tick && nat_le (steps_u
 -- timestep=TIME
 unfoldable pub tick_line : ℕ → List ℕ → Option ℕ
 tick_line stop line = do
-  text ← behind (codes "timestep=") line
-  tick ← time_in text
+  tick ← time_behind (codes "timestep=") line
   tick when is_tick stop tick
 
 -- ---- ports
@@ -72,16 +63,21 @@ pub record PortLine : Type 0 where
   pub base : ℕ
   pub size : ℕ
 
+-- B+N, as base and size
+unfoldable pub span_in : List ℕ → Option (ℕ × ℕ)
+span_in text = do
+  parts ← cut_at (byte "+") text
+  base ← count_up_to most_indices parts.0
+  size ← count_up_to most_indices parts.1
+  (base, size) when nat_le (base + size) most_indices
+
 -- NAME B+N behind the front
 unfoldable pub port_line : List ℕ → List ℕ → Option PortLine
 port_line front line = do
   text ← behind front line
-  words ← cut_at (byte " ") text
-  name ← name_in words.0
-  map ← cut_at (byte "+") words.1
-  base ← count_up_to most_indices map.0
-  size ← count_up_to most_indices map.1
-  (record { name = name; base = base; size = size }) when nat_le (base + size) most_indices
+  name ← name_before (byte " ") text
+  span ← span_in name.1
+  Some (record { name = name.0; base = span.0; size = span.1 })
 
 -- ---- the rule
 
@@ -91,8 +87,7 @@ emit_times text = do
   text ← behind (codes "every ") text
   words ← cut_at (byte " ") text
   every ← time_in words.0
-  text ← behind (codes "from ") words.1
-  first ← time_in text
+  first ← time_behind (codes "from ") words.1
   Some (every, first)
 
 -- the index is one that a port of this base and size maps
@@ -113,17 +108,25 @@ pub record RuleLine : Type 0 where
   pub every : ℕ
   pub first : ℕ
 
--- args=emit NAME INDEX every TIME from TIME, of this port, at an index that it maps, and not too fast
+-- INDEX every TIME from TIME
+unfoldable pub rule_in : List ℕ → Option RuleLine
+rule_in text = do
+  words ← cut_at (byte " ") text
+  index ← count_up_to greatest_index words.0
+  times ← emit_times words.1
+  Some (record { index = index; every = times.0; first = times.1 })
+
+-- the rule is of this port, at an index that it maps, and not too fast
+abbrev pub rule_fits : ℕ → ℕ → PortLine → List ℕ → RuleLine → Bool
+rule_fits stop tick out port rule = bytes_eq port out.name && maps out.base out.size rule.index && is_period stop tick rule.every
+
+-- args=emit NAME INDEX every TIME from TIME, which fits
 unfoldable pub rule_line : ℕ → ℕ → PortLine → List ℕ → Option RuleLine
 rule_line stop tick out line = do
   text ← behind (codes "args=emit ") line
-  words ← cut_at (byte " ") text
-  port ← name_in words.0
-  words ← cut_at (byte " ") words.1
-  index ← count_up_to greatest_index words.0
-  times ← emit_times words.1
-  (record { index = index; every = times.0; first = times.1 })
-      when (bytes_eq port out.name && maps out.base out.size index && is_period stop tick times.0)
+  port ← name_before (byte " ") text
+  rule ← rule_in port.1
+  rule when rule_fits stop tick out port.0 rule
 
 -- ---- the connection
 
@@ -138,11 +141,9 @@ pub record LinkLine : Type 0 where
 -- NAME.NAME and a space, and what stands behind them
 unfoldable pub end_in : List ℕ → Option (List ℕ × List ℕ × List ℕ)
 end_in text = do
-  parts ← cut_at (byte ".") text
-  app ← name_in parts.0
-  words ← cut_at (byte " ") parts.1
-  port ← name_in words.0
-  Some (app, port, words.1)
+  app ← name_before (byte ".") text
+  port ← name_before (byte " ") app.1
+  Some (app.0, port.0, port.1)
 
 -- [WIDTH]
 unfoldable pub width_in : List ℕ → Option ℕ
@@ -161,11 +162,15 @@ link_line line = do
   width ← width_in to.2
   Some (record { from = from.0; from_port = from.1; to = to.0; to_port = to.1; width = width })
 
+-- a connection so wide covers the port
+abbrev pub covers : ℕ → PortLine → Bool
+covers width port = nat_le (port.base + port.size) width
+
 -- the connection goes from the one application's port to the other's, and is as wide as both
 unfoldable pub link_fits : List ℕ → PortLine → List ℕ → PortLine → LinkLine → Bool
 link_fits from out to input link = bytes_eq link.from from && bytes_eq link.from_port out.name
     && bytes_eq link.to to && bytes_eq link.to_port input.name
-    && nat_le (out.base + out.size) link.width && nat_le (input.base + input.size) link.width
+    && covers link.width out && covers link.width input
 
 -- the width of a connection that fits
 unfoldable pub width_line : List ℕ → PortLine → List ℕ → PortLine → List ℕ → Option ℕ

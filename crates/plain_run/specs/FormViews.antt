@@ -1,11 +1,11 @@
 -- The reader's parts of a text, as what they say.
-use Rattle.config_text.specs.declared.form_lines.PortPart.{PortPart}
-use Rattle.config_text.specs.declared.form_lines.RulePart.{RulePart}
-use Rattle.config_text.specs.declared.form_lines.LinkPart.{LinkPart}
-use Rattle.config_text.specs.declared.form_reading.SourcePart.{SourcePart}
-use Rattle.config_text.specs.declared.form_reading.SinkPart.{SinkPart}
-use Rattle.config_text.specs.FormLines.{PortLine, RuleLine, LinkLine}
-use Rattle.config_text.specs.FirstForm.{SourceLines, SinkLines}
+use Rattle.plain_run.specs.declared.form_lines.PortPart.{PortPart}
+use Rattle.plain_run.specs.declared.form_lines.RulePart.{RulePart}
+use Rattle.plain_run.specs.declared.form_lines.LinkPart.{LinkPart}
+use Rattle.plain_run.specs.declared.form_reading.SourcePart.{SourcePart}
+use Rattle.plain_run.specs.declared.form_reading.SinkPart.{SinkPart}
+use Rattle.plain_run.specs.FormLines.{PortLine, RuleLine, LinkLine}
+use Rattle.plain_run.specs.FirstForm.{SourceLines, SinkLines}
 use Rattle.config_text.specs.Lines.{raw_lines}
 
 abbrev pub seen_port : PortPart → PortLine

@@ -1,7 +1,7 @@
 -- Small texts, and what they say in the first form.
 use Rattle.std.specs.Prelude.{ℕ, ◌-◌, List, [], ◌∷◌, ◌++◌, take, drop, codes}
 use Rattle.std.specs.List.{flat_map}
-use Rattle.config_text.specs.declared.form.FirstForm.{FirstForm}
+use Rattle.plain_run.specs.declared.form.FirstForm.{FirstForm}
 use Rattle.config_text.specs.Canon.{ended}
 
 abbrev pub text_of : List (List ℕ) → List ℕ

@@ -1,25 +1,18 @@
 -- The first form: one source, one sink and one connection, on thirteen lines.
-use Rattle.std.specs.Prelude.{◌≡◌, ℕ, ◌+◌, nat_lt, if◌then◌else◌, List, [], ◌∷◌, length, Option, Some, None, Result, Ok, Err, bytes_eq, codes}
+use Rattle.std.specs.Prelude.{◌≡◌, ℕ, ◌+◌, nat_lt, if◌then◌else◌, List, [], ◌∷◌, length, Option, Result, Ok, Err, bytes_eq, codes}
+use Rattle.std.specs.Option.{ok_or}
 use Rattle.std.specs.Result.{result_map_both}
+use Rattle.text_words.specs.InTurn.{◌>>=◌}
+use Rattle.text_words.specs.Options.{◌when◌}
 use Rattle.config_text.specs.declared.text_kind.TextKind.{TextKind}
 use Rattle.config_text.specs.declared.text_kind.TextKind.TheVariants.{TooLong, Unbuilt}
 use Rattle.config_text.specs.declared.text_fault.TextFault.{TextFault}
 use Rattle.config_text.specs.declared.text_fault.TextFault.TheVariants.{At, Memory}
-use Rattle.config_text.specs.declared.form.FirstForm.{FirstForm}
-use Rattle.config_text.specs.FormWords.{◌when◌}
-use Rattle.config_text.specs.FormLines.{PortLine, RuleLine, section_line, other_section_line, stop_line, tick_line, port_line, rule_line, width_line}
+use Rattle.plain_run.specs.declared.form.FirstForm.{FirstForm}
+use Rattle.plain_run.specs.FormLines.{PortLine, RuleLine, section_line, other_section_line, stop_line, tick_line, port_line, rule_line, width_line}
 use Rattle.config_text.specs.Lines.{raw_lines, longest_text}
 
 -- The steps read line by line, up to the first line that is not as it has to be. Its number is the fault.
-infixl 10 ◌>>=◌
-abbrev pub ◌>>=◌ : {A B : Type 0} → Result A ℕ → (A → Result B ℕ) → Result B ℕ
-(Ok x) >>= f = f x
-(Err number) >>= f = Err number
-
--- the value, or the number of the line that should have said it
-abbrev pub said : {A : Type 0} → ℕ → Option A → Result A ℕ
-said number None = Err number
-said number (Some x) = Ok x
 
 -- the next line, and the lines behind it
 unfoldable pub next_line : ℕ → List (List ℕ) → Result (List ℕ × List (List ℕ)) ℕ
@@ -30,7 +23,7 @@ next_line number (line ∷ lines) = Ok (line, lines)
 abbrev pub says : {A : Type 0} → ℕ → (List ℕ → Option A) → List (List ℕ) → Result (A × List (List ℕ)) ℕ
 says number reads lines = do
   line ← next_line number lines
-  value ← said number (reads line.0)
+  value ← ok_or (reads line.0) number
   Ok (value, line.1)
 
 -- a line that has to be this one

@@ -1,14 +1,10 @@
 -- The words of a line of the first form, each read from the front of what is left.
-use Rattle.std.specs.Prelude.{ℕ, ◌+◌, Bool, ◌==◌, if◌then◌else◌, List, length, take, drop, Option, Some, None, option_map, bytes_eq}
+use Rattle.std.specs.Prelude.{ℕ, ◌+◌, ◌==◌, List, length, take, drop, Option, Some, option_map, bytes_eq}
 use Rattle.std.specs.List.{position}
 use Rattle.std.specs.Result.{result_ok}
 use Rattle.music_base.specs.Names.{is_name}
 use Rattle.music_base.specs.Times.{time_value}
-
--- the value, where the test holds
-infix 3 ◌when◌
-abbrev pub ◌when◌ : {A : Type 0} → A → Bool → Option A
-x when test = if test then Some x else None
+use Rattle.text_words.specs.Options.{◌>>=◌, ◌when◌}
 
 -- what stands before the first such byte, and what stands after it
 abbrev pub cut_at : ℕ → List ℕ → Option (List ℕ × List ℕ)
@@ -25,3 +21,16 @@ name_in text = text when is_name text
 -- TIME, in nanoseconds
 abbrev pub time_in : List ℕ → Option ℕ
 time_in text = result_ok (time_value text)
+
+-- NAME before the first such byte, and what stands after it
+unfoldable pub name_before : ℕ → List ℕ → Option (List ℕ × List ℕ)
+name_before byte text = do
+  parts ← cut_at byte text
+  name ← name_in parts.0
+  Some (name, parts.1)
+
+-- TIME behind the front
+unfoldable pub time_behind : List ℕ → List ℕ → Option ℕ
+time_behind front text = do
+  text ← behind front text
+  time_in text

@@ -3,7 +3,7 @@ use Rattle.std.proofs.Common.{◌≡◌, ℕ, ◌<◌, List, [], ◌∷◌, leng
 use Rattle.std.specs.List.{onto_first}
 use Rattle.std.proofs.lemmas.Bool.{cases_Bool}
 use Rattle.config_text.specs.Lines.{is_line_feed, raw_lines}
-use Rattle.config_text.specs.FirstForm.{no_line}
+use Rattle.plain_run.specs.FirstForm.{no_line}
 
 pub raw_lines-nil : (text : List ℕ) → length text ≡ 0 → raw_lines text ≡ []
 unfolding raw_lines
@@ -24,3 +24,7 @@ no_line-raw_lines number (b ∷ text) some =
       | inl ends ↦ rw ends refl
       | inr goes ↦ rw goes (no_line-onto_first b number (raw_lines text))
     ]
+
+pub text-nil : (text : List ℕ) → length text ≡ 0 → text ≡ []
+text-nil [] none = refl
+text-nil (b ∷ text) none = absurd (omega arith)
