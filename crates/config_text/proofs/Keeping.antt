@@ -1,4 +1,4 @@
--- Settings and sections stay lawful.
+-- Settings, sections and connections stay lawful.
 use Rattle.std.proofs.Common.{◌≡◌, ℕ, zero, suc, ◌-◌, ◌<◌, true, false, not, leb, ◌&&◌, ◌||◌, List, [], ◌∷◌, ◌++◌, length, Some, None, refl, ap, ◌∙◌, inl, inr, arith}
 use Rattle.indexmap.specs.IndexMap.{insert_entry, set_value_at}
 use Rattle.config_text.proofs.LastSection.{set_last}
@@ -9,7 +9,9 @@ use Rattle.std.proofs.lemmas.List.Folds.{list_all-append, list_any-append}
 use Rattle.music_base.specs.Names.{is_name}
 use Rattle.config_text.specs.Parts.{is_value}
 use Rattle.config_text.specs.Pairs.{same_name, value_of, last_value, onto_last, has_own_keys}
-use Rattle.config_text.specs.Lawful.{is_lawful_setting, is_lawful_section, are_settings, are_sections}
+use Rattle.config_text.specs.Connections.{is_link}
+use Rattle.config_text.specs.Lawful.{is_lawful_setting, is_lawful_section, are_settings, are_sections, are_links}
+use Rattle.config_text.specs.declared.link_text.LinkText.{LinkText}
 
 abbrev Setting : Type 0
 Setting = List ℕ × List ℕ
@@ -79,6 +81,12 @@ sections_push ss n st lawful name settings none room =
     let b = and_parts (list_all is_lawful_section ss) (has_own_keys ss) a.0 in
     and_from _ _ (and_from _ _ (list_all-append is_lawful_section ss ((n, st) ∷ []) ∙ and_from _ _ b.0 (and_from _ _ (and_from _ _ name settings) refl)) (own_push ss n st b.1 none))
     (le-leb (length (ss ++ (n, st) ∷ [])) 32 (omega (arith, length-append ss ((n, st) ∷ []))))
+
+pub links_push : (links : List LinkText) (link : LinkText) → are_links links ≡ true → is_link link ≡ true → length links < 64 → are_links (links ++ link ∷ []) ≡ true
+links_push links link lawful is room =
+    let a = and_parts (list_all is_link links) (leb (length links) 64) lawful in
+    and_from _ _ (list_all-append is_link links (link ∷ []) ∙ and_from _ _ a.0 (and_from _ _ is refl))
+    (le-leb (length (links ++ link ∷ [])) 64 (omega (arith, length-append links (link ∷ []))))
 
 -- a value in the place of another leaves the keys as they are
 any_set : (k : List ℕ) (ss : List (List ℕ × List Setting)) (i : ℕ) (w : List Setting) → list_any (λ (o : List ℕ × List Setting). same_name o.0 k) (set_value_at ss i w) ≡ list_any (λ (o : List ℕ × List Setting). same_name o.0 k) ss

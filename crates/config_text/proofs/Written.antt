@@ -1,9 +1,11 @@
 -- What is written so far, with one line or one section more.
-use Rattle.std.proofs.Common.{◌≡◌, ℕ, ◌+◌, List, [], ◌∷◌, ◌++◌, map, take, Some, ap, ◌∙◌, append_assoc}
+use Rattle.std.proofs.Common.{◌≡◌, ℕ, ◌+◌, ◌<◌, List, [], ◌∷◌, ◌++◌, length, map, take, get_or, Some, ap, sym, ◌∙◌, append_assoc}
 use Rattle.std.specs.Prelude.{slice_get}
 use Rattle.std.specs.List.{flat_map}
-use Rattle.std.proofs.lemmas.List.{map_push, flat_map_more, append-nil}
+use Rattle.std.proofs.lemmas.List.{map_push, flat_map_more, append-nil, take_more}
 use Rattle.std.proofs.lemmas.List.Concat.{flat_map-append}
+use Rattle.config_text.specs.declared.link_text.LinkText.{LinkText}
+use Rattle.config_text.specs.Connections.{link_line}
 use Rattle.config_text.specs.Pairs.{SettingList, SectionList}
 use Rattle.config_text.specs.Canon.{ended, setting_line, section_lines}
 use Rattle.config_text.proofs.Entries.{taken}
@@ -20,3 +22,9 @@ section_more out base ss i s at so_far =
     let lines : flat_map section_lines (take (i + 1) ss) ≡ front ++ section_lines s =
     ap (flat_map section_lines) (taken ss i s at) ∙ flat_map-append section_lines (take i ss) (s ∷ []) ∙ ap (λ (l : List (List ℕ)). front ++ l) (append-nil (section_lines s)) in
     rw (lines, so_far, flat_map-append ended front (section_lines s)) (append_assoc base (flat_map ended front) (flat_map ended (section_lines s)))
+
+pub link_more : (out base : List ℕ) (links : List LinkText) (i : ℕ) (link : LinkText) → i < length links → link ≡ get_or links i link → out ≡ base ++ flat_map ended (map link_line (take i links))
+    → out ++ ended (link_line link) ≡ base ++ flat_map ended (map link_line (take (i + 1) links))
+link_more out base links i link lt at so_far =
+    let more : take (i + 1) links ≡ take i links ++ link ∷ [] = take_more links i link lt ∙ ap (λ (l : LinkText). take i links ++ l ∷ []) (sym at) in
+    rw (more, map_push link_line (take i links) link, so_far) (flat_map_more ended base (map link_line (take i links)) (link_line link))

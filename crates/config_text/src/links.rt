@@ -3,7 +3,7 @@ ghost use Rattle.config_text.specs.Connections.{is_width, is_link};
 ghost use Rattle.config_text.specs.Lawful.{are_links};
 
 use crate::LinkText;
-use music_base::{NoMemory};
+use music_base::NoMemory;
 use std::alloc::Global;
 use std::marker::Model;
 

@@ -7,12 +7,12 @@ ghost use Rattle.config_text.specs.Connections.{is_link, is_width};
 ghost use Rattle.config_text.specs.Contents.{content_of, is_lawful, section, setting, connection};
 ghost use Rattle.config_text.specs.Pairs.{value_of, last_value, onto_last};
 ghost use Rattle.config_text.specs.Text.{Spells, IsFaultOf, fault_beside, open_settings, section_fault, link_fault};
-ghost use Rattle.config_text.specs.Inner.{seen, link_of, names_of, with_content, with_line, with_setting, OnKind, Adds, at_line};
+ghost use Rattle.config_text.specs.Inner.{seen, link_of, with_content, with_line, with_setting, OnKind, Adds, at_line};
 ghost use Rattle.config_text.specs.declared.text_kind.TextKind.TheVariants.{Unbuilt};
 ghost use Rattle.config_text.specs.declared.text_fault.TextFault.TheVariants.{At};
 ghost use Rattle.config_text.specs.declared.reading.LineFault.TheVariants.{Memory};
 
-use crate::connection::{Connection, End};
+use crate::connection::Connection;
 use crate::content::{LentContent, content_of};
 use crate::lines::{LONGEST_TEXT, split_line};
 use crate::{Config, LinkText, Settings, TextFault, TextKind};
@@ -104,30 +104,21 @@ fn add_setting(
     }
 }
 
-// The names of an end, with memory of their own.
-fn end_names(alloc: Global, end: End<'_>) -> Result<(Name, Name), NoMemory>
-    requires app { is_name end.app.now ≡ true }
-    requires port { is_name end.port.now ≡ true }
-    ensures { IfOk result (λ names. names ≡ names_of end.entry) }
-{
-    let app = Name::from_slice(alloc, end.app)?;
-    let port = Name::from_slice(alloc, end.port)?;
-    Ok((app, port))
-}
-
+// The connection, with names that have memory of their own.
 fn link_text(alloc: Global, lent: Connection<'_>) -> Result<LinkText, NoMemory>
     requires { is_link (link_of lent) ≡ true }
     ensures { IfOk result (λ link. link ≡ link_of lent.entry) }
 {
-    let Connection { from, to, width } = lent;
-    let (from_app, from_port) = end_names(alloc, from)?;
-    let (to_app, to_port) = end_names(alloc, to)?;
+    let from_app = Name::from_slice(alloc, lent.from.app)?;
+    let from_port = Name::from_slice(alloc, lent.from.port)?;
+    let to_app = Name::from_slice(alloc, lent.to.app)?;
+    let to_port = Name::from_slice(alloc, lent.to.port)?;
     Ok(LinkText {
         from_app,
         from_port,
         to_app,
         to_port,
-        width,
+        width: lent.width,
     })
 }
 

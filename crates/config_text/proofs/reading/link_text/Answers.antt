@@ -19,14 +19,14 @@ names_in : (link : LinkText) → is_link link ≡ true →
     (is_name link.from_app ≡ true) × (is_name link.from_port ≡ true) × (is_name link.to_app ≡ true) × (is_name link.to_port ≡ true)
 names_in link h = each_of_all (is_name link.from_app) (is_name link.from_port) (is_name link.to_app) (is_name link.to_port) (is_width link.width) h
 
-pub end_names-requires-clause-app : goal.end_names-requires-clause-app
-end_names-requires-clause-app c = (names_in (link_of c.args.lent) c.requires).0
+pub from_slice-requires : goal.from_slice-requires
+from_slice-requires c = (names_in (link_of c.args.lent) c.requires).0
 
-pub end_names-requires-clause-port : goal.end_names-requires-clause-port
-end_names-requires-clause-port c = (names_in (link_of c.args.lent) c.requires).1
+pub from_slice-requires-2 : goal.from_slice-requires-2
+from_slice-requires-2 c = (names_in (link_of c.args.lent) c.requires).1
 
-pub end_names-requires-2-clause-app : goal.end_names-requires-2-clause-app
-end_names-requires-2-clause-app c = (names_in (link_of c.args.lent) c.requires).2
+pub from_slice-requires-3 : goal.from_slice-requires-3
+from_slice-requires-3 c = (names_in (link_of c.args.lent) c.requires).2
 
-pub end_names-requires-2-clause-port : goal.end_names-requires-2-clause-port
-end_names-requires-2-clause-port c = (names_in (link_of c.args.lent) c.requires).3
+pub from_slice-requires-4 : goal.from_slice-requires-4
+from_slice-requires-4 c = (names_in (link_of c.args.lent) c.requires).3

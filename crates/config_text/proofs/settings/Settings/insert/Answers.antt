@@ -1,3 +1,4 @@
+use Rattle.std.proofs.Common.{refl}
 use Rattle.config_text.proofs.Keeping.{settings_insert}
 use Rattle.config_text.proofs.settings.Settings.insert.Goals as goal
 
@@ -6,3 +7,6 @@ invariant_of-self-2 c = rw c.in_ok-old.ensures.entries (settings_insert c.self.i
 
 pub returns-clause-lawful : goal.returns-clause-lawful
 returns-clause-lawful c = rw c.in_ok-old.ensures.entries (settings_insert c.self.inside.entries.entries c.args.name c.args.value c.self.invariant c.as_slice-name.ensures.name c.requires)
+
+pub returns-clause-entries : goal.returns-clause-entries
+returns-clause-entries c = rw (c.in_ok-old.ensures.entries, ← c.self.view_is) refl
