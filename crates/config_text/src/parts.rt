@@ -1,7 +1,7 @@
 //! The parts of a line. They are lent from the line, so that reading a line takes no memory.
 
-ghost use Rattle.std.specs.Prelude.{◌≡◌, ◌==◌, ◌+◌, ◌<◌, ◌≤◌, ◌&&◌, ◌∷◌, ◌++◌, nat_lt, length, IfOk, IfSome, true};
-ghost use Rattle.std.specs.List.{position_or_len, list_all, list_any, before_first, after_first};
+ghost use Rattle.std.specs.Prelude.{◌≡◌, ◌==◌, ◌+◌, ◌<◌, ◌≤◌, ◌&&◌, ◌∷◌, ◌++◌, nat_lt, length, IfOk, IfSome, is_some, true};
+ghost use Rattle.std.specs.List.{position, position_or_len, list_all, list_any, before_first, after_first};
 ghost use Rattle.config_text.specs.Bytes.{close_bracket, is_blank, is_text_byte, is_quote};
 ghost use Rattle.config_text.specs.Parts.{without_cr, before_comment, trimmed, without_leading_blanks, without_trailing_blanks, begins_with_blank, ends_with_blank, ends_in, between_ends, without_last, name_in, is_value};
 ghost use Rattle.config_text.specs.Inner.{Gives};
@@ -147,7 +147,8 @@ pub fn after_first(bytes: &[u8], byte: u8) -> &[u8]
 
 /// What stands before the first such byte, and what stands after it.
 pub fn split_at(bytes: &[u8], byte: u8) -> Option<(&[u8], &[u8])>
-    ensures { IfSome result (λ parts. bytes.now ≡ parts.0.now ++ byte ∷ parts.1.now) }
+    ensures parts { IfSome result (λ parts. bytes.now ≡ parts.0.now ++ byte ∷ parts.1.now) }
+    ensures splits { is_some result ≡ is_some (position (λ b. b == byte) bytes.now) }
 {
     match byte_place(byte, bytes) {
         None => None,
