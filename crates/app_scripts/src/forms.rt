@@ -15,7 +15,7 @@ ghost use Rattle.app_scripts.specs.Forms.{
 };
 ghost use Rattle.app_scripts.specs.Spelled.{rule_of};
 
-use crate::spelled::SpelledRule;
+use crate::spelled::{Relay, Source, SpelledRule};
 use crate::words::{
     fixed_after, index_first, last_fixed, last_fixed_after, last_index, last_time_after,
     message_first, name_after, scale_after, shift_after, time_after,
@@ -31,16 +31,17 @@ fn emit(text: &[u8]) -> Option<SpelledRule<'_>>
     let (port, rest) = name_after(b"emit", text)?;
     let (index, rest) = index_first(rest)?;
     if let Some(time) = last_time_after(b"at", rest) {
-        return Some(SpelledRule::EmitAt { port, index, time });
+        let form = Source::EmitAt { index, time };
+        return Some(SpelledRule::Source { port, form });
     }
     let (every, rest) = time_after(b"every", rest)?;
     let first = last_time_after(b"from", rest)?;
-    Some(SpelledRule::EmitEvery {
-        port,
+    let form = Source::EmitEvery {
         index,
         every,
         first,
-    })
+    };
+    Some(SpelledRule::Source { port, form })
 }
 
 /// `pass INPUT to OUTPUT shift SHIFT after AFTER`
@@ -52,11 +53,10 @@ fn pass(text: &[u8]) -> Option<SpelledRule<'_>>
     let (output, rest) = name_after(b"to", rest)?;
     let (shift, rest) = shift_after(b"shift", rest)?;
     let after = last_time_after(b"after", rest)?;
-    Some(SpelledRule::Pass {
+    Some(SpelledRule::Relay {
         input,
         output,
-        shift,
-        after,
+        form: Relay::Pass { shift, after },
     })
 }
 
@@ -68,7 +68,8 @@ fn set_value(text: &[u8]) -> Option<SpelledRule<'_>>
     let (port, rest) = name_after(b"set", text)?;
     let (index, rest) = index_first(rest)?;
     let value = last_fixed(rest)?;
-    Some(SpelledRule::SetValue { port, index, value })
+    let form = Source::SetValue { index, value };
+    Some(SpelledRule::Source { port, form })
 }
 
 /// `ramp PORT INDEX from START by BY`
@@ -80,12 +81,8 @@ fn ramp(text: &[u8]) -> Option<SpelledRule<'_>>
     let (index, rest) = index_first(rest)?;
     let (start, rest) = fixed_after(b"from", rest)?;
     let by = last_fixed_after(b"by", rest)?;
-    Some(SpelledRule::Ramp {
-        port,
-        index,
-        start,
-        by,
-    })
+    let form = Source::Ramp { index, start, by };
+    Some(SpelledRule::Source { port, form })
 }
 
 /// `copy INPUT to OUTPUT scale NUMERATOR/DENOMINATOR add ADD`
@@ -97,12 +94,15 @@ fn copy_values(text: &[u8]) -> Option<SpelledRule<'_>>
     let (output, rest) = name_after(b"to", rest)?;
     let ((numerator, denominator), rest) = scale_after(b"scale", rest)?;
     let add = last_fixed_after(b"add", rest)?;
-    Some(SpelledRule::CopyValues {
-        input,
-        output,
+    let form = Relay::CopyValues {
         numerator,
         denominator,
         add,
+    };
+    Some(SpelledRule::Relay {
+        input,
+        output,
+        form,
     })
 }
 
@@ -116,12 +116,15 @@ fn when_over(text: &[u8]) -> Option<SpelledRule<'_>>
     let (over, rest) = fixed_after(b"over", rest)?;
     let (output, rest) = name_after(b"emit", rest)?;
     let emitted = last_index(rest)?;
-    Some(SpelledRule::When {
-        input,
+    let form = Relay::When {
         index,
         over,
-        output,
         emitted,
+    };
+    Some(SpelledRule::Relay {
+        input,
+        output,
+        form,
     })
 }
 
@@ -134,12 +137,8 @@ fn say(text: &[u8]) -> Option<SpelledRule<'_>>
     let (word, rest) = message_first(rest)?;
     let (every, rest) = time_after(b"every", rest)?;
     let first = last_time_after(b"from", rest)?;
-    Some(SpelledRule::Say {
-        port,
-        word,
-        every,
-        first,
-    })
+    let form = Source::Say { word, every, first };
+    Some(SpelledRule::Source { port, form })
 }
 
 /// `reply INPUT to OUTPUT after AFTER`
@@ -150,10 +149,10 @@ fn reply(text: &[u8]) -> Option<SpelledRule<'_>>
     let (input, rest) = name_after(b"reply", text)?;
     let (output, rest) = name_after(b"to", rest)?;
     let after = last_time_after(b"after", rest)?;
-    Some(SpelledRule::Reply {
+    Some(SpelledRule::Relay {
         input,
         output,
-        after,
+        form: Relay::Reply { after },
     })
 }
 

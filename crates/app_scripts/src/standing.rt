@@ -14,10 +14,10 @@ ghost use Rattle.scene_model.specs.Rules.{
 };
 ghost use Rattle.scene_model.specs.Spellable.{is_spellable};
 ghost use Rattle.app_scripts.specs.Rules.{fault_of, is_named};
-ghost use Rattle.app_scripts.specs.Spelled.{rule_of};
+ghost use Rattle.app_scripts.specs.Spelled.{input_kind, output_kind, rule_of, source_kind};
 
 use crate::RuleFault;
-use crate::spelled::SpelledRule;
+use crate::spelled::{Relay, Source, SpelledRule};
 use scene_model::{Direction, PortDecl, PortKind};
 
 /// How many periods of a rule the whole run may hold.
@@ -42,32 +42,54 @@ fn has_port(ports: &[PortDecl], name: &[u8], direction: Direction, kind: PortKin
     }
 }
 
+/// What a port is to carry to put this out.
+fn source_kind(form: &Source<'_>) -> PortKind
+    ensures { result ≡ source_kind form.now }
+{
+    match form {
+        Source::EmitAt { .. } | Source::EmitEvery { .. } => PortKind::Events,
+        Source::SetValue { .. } | Source::Ramp { .. } => PortKind::Values,
+        Source::Say { .. } => PortKind::Messages,
+    }
+}
+
+/// What the input is to carry.
+fn input_kind(form: &Relay) -> PortKind
+    ensures { result ≡ input_kind form.now }
+{
+    match form {
+        Relay::Pass { .. } => PortKind::Events,
+        Relay::CopyValues { .. } | Relay::When { .. } => PortKind::Values,
+        Relay::Reply { .. } => PortKind::Messages,
+    }
+}
+
+/// What the output is to carry.
+fn output_kind(form: &Relay) -> PortKind
+    ensures { result ≡ output_kind form.now }
+{
+    match form {
+        Relay::Pass { .. } | Relay::When { .. } => PortKind::Events,
+        Relay::CopyValues { .. } => PortKind::Values,
+        Relay::Reply { .. } => PortKind::Messages,
+    }
+}
+
 /// Whether the rule names such ports as it asks for.
 fn ports_stand(ports: &[PortDecl], rule: &SpelledRule<'_>) -> bool
     requires { is_spellable (rule_of rule.now) ≡ true }
     ensures { result ≡ ports_stand ports.now (rule_of rule.now) }
 {
     use Direction::{Input, Output};
-    use PortKind::{Events, Messages, Values};
-    match *rule {
-        SpelledRule::EmitAt { port, .. } | SpelledRule::EmitEvery { port, .. } => {
-            has_port(ports, port, Output, Events)
-        }
-        SpelledRule::Pass { input, output, .. } => {
-            has_port(ports, input, Input, Events) && has_port(ports, output, Output, Events)
-        }
-        SpelledRule::SetValue { port, .. } | SpelledRule::Ramp { port, .. } => {
-            has_port(ports, port, Output, Values)
-        }
-        SpelledRule::CopyValues { input, output, .. } => {
-            has_port(ports, input, Input, Values) && has_port(ports, output, Output, Values)
-        }
-        SpelledRule::When { input, output, .. } => {
-            has_port(ports, input, Input, Values) && has_port(ports, output, Output, Events)
-        }
-        SpelledRule::Say { port, .. } => has_port(ports, port, Output, Messages),
-        SpelledRule::Reply { input, output, .. } => {
-            has_port(ports, input, Input, Messages) && has_port(ports, output, Output, Messages)
+    match rule {
+        SpelledRule::Source { port, form } => has_port(ports, port, Output, source_kind(form)),
+        SpelledRule::Relay {
+            input,
+            output,
+            form,
+        } => {
+            has_port(ports, input, Input, input_kind(form))
+                && has_port(ports, output, Output, output_kind(form))
         }
     }
 }
@@ -88,18 +110,19 @@ fn indices_stand(ports: &[PortDecl], rule: &SpelledRule<'_>) -> bool
     ensures { result ≡ indices_stand ports.now (rule_of rule.now) }
 {
     match *rule {
-        SpelledRule::EmitAt { port, index, .. }
-        | SpelledRule::EmitEvery { port, index, .. }
-        | SpelledRule::SetValue { port, index, .. }
-        | SpelledRule::Ramp { port, index, .. } => is_mapped(ports, port, index),
-        SpelledRule::When {
+        SpelledRule::Source { port, form } => match form {
+            Source::EmitAt { index, .. }
+            | Source::EmitEvery { index, .. }
+            | Source::SetValue { index, .. }
+            | Source::Ramp { index, .. } => is_mapped(ports, port, index),
+            Source::Say { .. } => true,
+        },
+        SpelledRule::Relay {
             input,
-            index,
             output,
-            emitted,
-            ..
+            form: Relay::When { index, emitted, .. },
         } => is_mapped(ports, input, index) && is_mapped(ports, output, emitted),
-        _ => true,
+        SpelledRule::Relay { .. } => true,
     }
 }
 
@@ -108,7 +131,10 @@ fn after_fits(tick: u64, rule: &SpelledRule<'_>) -> bool
     ensures { result ≡ after_fits tick (rule_of rule.now) }
 {
     match *rule {
-        SpelledRule::Pass { after, .. } | SpelledRule::Reply { after, .. } => after < tick,
+        SpelledRule::Relay {
+            form: Relay::Pass { after, .. } | Relay::Reply { after },
+            ..
+        } => after < tick,
         _ => true,
     }
 }
@@ -125,9 +151,10 @@ fn rate_fits(lasts: u128, rule: &SpelledRule<'_>) -> bool
     ensures { result ≡ rate_fits lasts (rule_of rule.now) }
 {
     match *rule {
-        SpelledRule::EmitEvery { every, .. } | SpelledRule::Say { every, .. } => {
-            is_rate(lasts, every)
-        }
+        SpelledRule::Source {
+            form: Source::EmitEvery { every, .. } | Source::Say { every, .. },
+            ..
+        } => is_rate(lasts, every),
         _ => true,
     }
 }
