@@ -1,5 +1,6 @@
 //! The nine forms of a rule. `text` is one piece of the rules' text.
-ghost use Rattle.std.specs.Prelude.{◌≡◌, option_map, IfSome, IfNone, Some, None};
+ghost use Rattle.std.specs.Prelude.{◌≡◌, option_map, IfSome, IfNone, Some, None, ◌∷◌, []};
+ghost use Rattle.text_words.specs.Options.{first_some};
 ghost use Rattle.text_words.specs.Words.{words};
 ghost use Rattle.app_scripts.specs.Forms.{
   copy_values,
@@ -156,6 +157,25 @@ fn reply(text: &[u8]) -> Option<SpelledRule<'_>>
     })
 }
 
+/// The rule that the words spell in one of the last five forms.
+fn later_rule_in(text: &[u8]) -> Option<SpelledRule<'_>>
+    ensures { option_map rule_of result ≡ first_some (λ form. form (words text.now)) (ramp ∷ copy_values ∷ when_over ∷ say ∷ reply ∷ []) }
+{
+    if let Some(rule) = ramp(text) {
+        return Some(rule);
+    }
+    if let Some(rule) = copy_values(text) {
+        return Some(rule);
+    }
+    if let Some(rule) = when_over(text) {
+        return Some(rule);
+    }
+    if let Some(rule) = say(text) {
+        return Some(rule);
+    }
+    reply(text)
+}
+
 /// The rule that the words spell. `None` where they have none of the forms.
 #[tactic(auto, unfolding(crate::specs::Forms::rule_in))]
 pub fn rule_in(text: &[u8]) -> Option<SpelledRule<'_>>
@@ -170,17 +190,5 @@ pub fn rule_in(text: &[u8]) -> Option<SpelledRule<'_>>
     if let Some(rule) = set_value(text) {
         return Some(rule);
     }
-    if let Some(rule) = ramp(text) {
-        return Some(rule);
-    }
-    if let Some(rule) = copy_values(text) {
-        return Some(rule);
-    }
-    if let Some(rule) = when_over(text) {
-        return Some(rule);
-    }
-    if let Some(rule) = say(text) {
-        return Some(rule);
-    }
-    reply(text)
+    later_rule_in(text)
 }
