@@ -1,6 +1,6 @@
 -- Consecutive indices.
-use Rattle.std.proofs.Common.{◌≡◌, ℕ, zero, suc, ◌+◌, ◌-◌, ◌≤◌, Bool, true, false, length, sym, ap, ◌∙◌, inl, inr, arith}
-use Rattle.std.specs.Prelude.{Some, None, nat_le, nat_lt, ◌==◌, ◌&&◌, ◌||◌, if◌then◌else◌, slice_get}
+use Rattle.std.proofs.Common.{◌≡◌, ℕ, zero, suc, ◌+◌, ◌-◌, ◌≤◌, true, false, length, sym, ap, ◌∙◌, inl, inr, arith}
+use Rattle.std.specs.Prelude.{Some, None, nat_le, nat_lt, ◌==◌, ◌&&◌, if◌then◌else◌, slice_get}
 use Rattle.std.specs.List.{list_any, range_with_len, position, position_or_len}
 use Rattle.std.proofs.lemmas.Bool.Decides.{nat_tests}
 use Rattle.std.proofs.lemmas.Bool.{cases_lt, cases_eq, lt-ltb, le-ltb, eq-eqb, ne_eqb}

@@ -24,6 +24,13 @@ impl Model for IndexList {
     ghost invariant = { λ list. are_indices list.indices.items ≡ true };
 }
 
+/// Whether the index is one of these.
+pub fn has_index(indices: &[u32], index: u32) -> bool
+    ensures { result ≡ list_any (λ i. i == index) indices.now }
+{
+    indices.iter().any(|i| *i == index)
+}
+
 fn index_place(indices: &[u32], global: u32) -> Option<usize>
     ensures place { result ≡ position (λ i. i == global) indices.now }
     ensures within { IfSome result (λ place. place < length indices.now) }
@@ -60,7 +67,7 @@ impl IndexList {
     pub fn holds(&self, global: u32) -> bool
         ensures { result ≡ list_any (λ i. i == global) self.now }
     {
-        self.as_slice().iter().any(|i| *i == global)
+        has_index(self.as_slice(), global)
     }
 
     /// The local place of a global index, where it is in the list.

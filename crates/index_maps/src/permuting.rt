@@ -5,6 +5,7 @@ ghost use Rattle.index_maps.specs.declared.map.IndexMap.TheVariants.{Permutation
 ghost use Rattle.index_maps.specs.declared.permuting.MapFault.TheVariants.{Memory};
 ghost use Rattle.index_maps.specs.declared.span.TheConstants.{INDEX_LIMIT};
 
+use crate::list::has_index;
 use crate::{INDEX_LIMIT, IndexList, IndexMap};
 use music_base::NoMemory;
 use std::alloc::Global;
@@ -28,12 +29,6 @@ impl From<NoMemory> for MapFault {
 
 /// A list of at most so many entries is searched by comparing each two of them.
 const SHORT: usize = 64;
-
-fn has_index(list: &[u32], index: u32) -> bool
-    ensures { result ≡ list_any (λ i. i == index) list.now }
-{
-    list.iter().any(|i| *i == index)
-}
 
 #[tactic(auto, using(crate::proofs::Repeats::rest_at_start, crate::proofs::Repeats::rest_at_end, crate::proofs::Repeats::repeat_found, crate::proofs::Repeats::rest_goes_on))]
 fn repeat_by_pairs(list: &[u32]) -> Option<u32>

@@ -25,7 +25,6 @@ fn lent(map: &IndexMap) -> RankMap<'_>
 }
 
 /// The part of a rank, where the span is split over the ranks.
-#[tactic(auto, using(crate::proofs::Splits::split_at_rises, crate::proofs::Splits::split_at_ends))]
 fn part_of(span: Span, ranks: u32, rank: u32) -> Span
     requires { rank < ranks }
     ensures base { result.base ≡ split_at span ranks rank }

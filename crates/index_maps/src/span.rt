@@ -7,7 +7,7 @@ use std::marker::Model;
 pub const INDEX_LIMIT: u32 = 65_536;
 
 /// Consecutive global indices: as many as the size says, from the base on.
-#[derive(Clone, Copy, Debug, PartialEq, Eq)]
+#[derive(Clone, Copy, Debug)]
 pub struct Span {
     base: u32,
     size: u32,
