@@ -1,7 +1,7 @@
 use music_base::{AppId, LinkId};
 
 /// What an application can do next.
-#[derive(Clone, Copy, Debug, PartialEq, Eq)]
+#[derive(Clone, Copy, Debug)]
 pub enum Act {
     /// The receiver takes the next block from a connection.
     Take(LinkId),

@@ -2,7 +2,7 @@ use music_base::{AppId, Nanos, NoMemory, PortId, Rank, Sample, TryCopy, Word};
 use std::alloc::Global;
 
 /// A row of the log: what one rank of an input port got in one step, at the step's clock, in ns.
-#[derive(Debug, Drop, PartialEq, Eq)]
+#[derive(Debug, Drop)]
 pub struct Row {
     pub clock: Nanos,
     pub app: AppId,
@@ -12,7 +12,7 @@ pub struct Row {
 }
 
 /// What a row tells: an event or a value with its local place at the rank and its global index, or a message.
-#[derive(Debug, Drop, PartialEq, Eq)]
+#[derive(Debug, Drop)]
 pub enum RowItem {
     Event {
         local: u32,

@@ -76,6 +76,15 @@ pub enum Rule {
     },
 }
 
+/// The names of an input and of the output that passes on what it brings.
+fn copy_names(alloc: Global, input: &Name, output: &Name) -> Result<(Name, Name), NoMemory>
+    ensures { IfOk result (λ copies. copies ≡ (input.now, output.now)) }
+{
+    let input = input.copy(alloc)?;
+    let output = output.copy(alloc)?;
+    Ok((input, output))
+}
+
 fn copy_emit_at(alloc: Global, port: &Name, index: u32, time: Nanos) -> Result<Rule, NoMemory>
     ensures { IfOk result (λ copy. copy ≡ EmitAt port.now index time) }
 {
@@ -112,9 +121,10 @@ fn copy_pass(
 ) -> Result<Rule, NoMemory>
     ensures { IfOk result (λ copy. copy ≡ Pass input.now output.now shift after) }
 {
+    let (input, output) = copy_names(alloc, input, output)?;
     Ok(Rule::Pass {
-        input: input.copy(alloc)?,
-        output: output.copy(alloc)?,
+        input,
+        output,
         shift,
         after,
     })
@@ -157,9 +167,10 @@ fn copy_copy_values(
 ) -> Result<Rule, NoMemory>
     ensures { IfOk result (λ copy. copy ≡ CopyValues input.now output.now numerator denominator add) }
 {
+    let (input, output) = copy_names(alloc, input, output)?;
     Ok(Rule::CopyValues {
-        input: input.copy(alloc)?,
-        output: output.copy(alloc)?,
+        input,
+        output,
         numerator,
         denominator,
         add,
@@ -176,11 +187,12 @@ fn copy_when(
 ) -> Result<Rule, NoMemory>
     ensures { IfOk result (λ copy. copy ≡ When input.now index over output.now emitted) }
 {
+    let (input, output) = copy_names(alloc, input, output)?;
     Ok(Rule::When {
-        input: input.copy(alloc)?,
+        input,
         index,
         over,
-        output: output.copy(alloc)?,
+        output,
         emitted,
     })
 }
@@ -205,9 +217,10 @@ fn copy_say(
 fn copy_reply(alloc: Global, input: &Name, output: &Name, after: Nanos) -> Result<Rule, NoMemory>
     ensures { IfOk result (λ copy. copy ≡ Reply input.now output.now after) }
 {
+    let (input, output) = copy_names(alloc, input, output)?;
     Ok(Rule::Reply {
-        input: input.copy(alloc)?,
-        output: output.copy(alloc)?,
+        input,
+        output,
         after,
     })
 }

@@ -15,7 +15,7 @@ pub struct AppDecl {
 }
 
 /// A connection from an output of one application to an input of one, which may be the same.
-#[derive(Clone, Copy, Debug, PartialEq, Eq)]
+#[derive(Clone, Copy, Debug)]
 pub struct Link {
     pub from_app: AppId,
     pub from_port: PortId,
