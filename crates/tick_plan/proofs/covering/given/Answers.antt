@@ -1,0 +1,7 @@
+use Rattle.std.proofs.Common.{ℕ, Some, sym}
+use Rattle.std.proofs.lemmas.List.{map_more}
+use Rattle.tick_plan.proofs.covering.given.Goals as goal
+
+pub loop-limit-preserved : goal.loop-limit-preserved
+loop-limit-preserved c =
+    rw (c.in_ok-push.ensures.items, c.loop-limit.invariant) (sym (map_more (λ (m : ℕ). Some m) c.args.limits.now c.loop-limit.limit-index 0 c.loop-limit-test.true))
