@@ -1,5 +1,6 @@
 pub mod Capped
 pub mod Next
+pub mod HandedOn
 pub mod OfApps
 pub mod NoMemory
 pub mod OfConfig

@@ -30,7 +30,7 @@ use Rattle.music_setup.specs.declared.fault.SetupFault.TheVariants as setup
 pub scene_fault : (config : Config) (fault : SetupFault) → IsSetupFault (scene_of config) fault → IsConfigFault config fault
 scene_fault config (setup.Text line kind) is = absurd is
 scene_fault config (setup.Scene fault) is = is
-scene_fault config (setup.Link place kind) is = is
+scene_fault config (setup.Link place what) is = is
 scene_fault config (setup.Uncovered cycle) is = absurd is
 scene_fault config setup.Memory is = tt
 
@@ -45,7 +45,7 @@ text_fault bytes (text.At line kind) is = is
 pub spelled_fault : (bytes : List ℕ) (config : Config) (fault : SetupFault) → Spells config bytes → IsConfigFault config fault → IsTextFault bytes fault
 spelled_fault bytes config (setup.Text line kind) spells is = absurd is
 spelled_fault bytes config (setup.Scene fault) spells is = (config, spells, is)
-spelled_fault bytes config (setup.Link place kind) spells is = (config, spells, is)
+spelled_fault bytes config (setup.Link place what) spells is = (config, spells, is)
 spelled_fault bytes config (setup.Uncovered cycle) spells is = (config, spells, is)
 spelled_fault bytes config setup.Memory spells is = tt
 

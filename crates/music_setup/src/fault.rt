@@ -62,7 +62,7 @@ pub enum AppKind {
 }
 
 /// Why an application was not read.
-#[derive(Clone, Copy, Debug, PartialEq, Eq)]
+#[derive(Clone, Copy)]
 pub(crate) enum AppFault {
     Kind(AppKind),
     NoMemory,

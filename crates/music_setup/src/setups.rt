@@ -17,7 +17,6 @@ use tick_plan::negotiate;
 /// Refused is the first fault of the configuration, and where it has none a cycle of the scene's waits under stated
 /// limits that is not covered. A text fault is never the answer. Each fault but want of memory has a text beside the
 /// configuration.
-#[tactic(auto, using(crate::proofs::OfConfig::fault_of_config, crate::proofs::OfSetups::scene_fault, crate::proofs::OfSetups::plan_fault, crate::proofs::OfSetups::plan_has_text))]
 pub fn setup_config(alloc: Global, config: &Config) -> Result<Ready, SetupFault>
     ensures scene { IfOk result (λ ready. scene_of config.now ≡ Ok ready.scene) }
     ensures sound { IfOk result IsSound }
@@ -33,7 +32,6 @@ pub fn setup_config(alloc: Global, config: &Config) -> Result<Ready, SetupFault>
 ///
 /// Refused is the first fault of the text, as `config_text::read_config` gives it, and where it has none that of the
 /// configuration, as [`setup_config`] gives it.
-#[tactic(auto, using(crate::proofs::OfSetups::text_fault, crate::proofs::OfSetups::spelled_fault, crate::proofs::OfSetups::text_built, crate::proofs::OfSetups::config_built))]
 pub fn setup(alloc: Global, bytes: &[u8]) -> Result<Ready, SetupFault>
     ensures scene { IfOk result (λ ready. SpellsScene bytes.now ready.scene) }
     ensures sound { IfOk result IsSound }

@@ -1,6 +1,7 @@
 //! The text of each fault.
-ghost use Rattle.std.specs.Prelude.{◌≡◌, ◌<◌, length, IfOk};
+ghost use Rattle.std.specs.Prelude.{◌≡◌, ◌<◌, ◌++◌, [], ◌∷◌, codes, length, IfOk};
 ghost use Rattle.std.specs.Option.{option_copied};
+ghost use Rattle.scene_model.specs.Logs.{line_end};
 ghost use Rattle.music_setup.specs.Texts.{
   HasApp,
   HasText,
@@ -146,6 +147,21 @@ fn scene_text(
     }
 }
 
+/// The line that names the stop or an application and its fault.
+fn scene_line(
+    alloc: Global,
+    config: Option<&Config>,
+    fault: SceneFault,
+) -> Result<Vec<u8>, NoMemory>
+    requires { IsOfConfig (option_copied config) fault }
+    ensures { IfOk result (λ text. text.items ≡ codes "scene fault: " ++ scene_text (option_copied config.entry) fault ++ line_end ∷ []) }
+{
+    let mut text = Vec::from_slice(alloc, b"scene fault: ")?;
+    text.extend_from_slice(&scene_text(alloc, config, fault)?)?;
+    text.extend_from_slice(b"\n")?;
+    Ok(text)
+}
+
 fn link_kind_name(kind: LinkKind) -> &'static [u8]
     ensures { result.now ≡ link_kind_name kind }
 {
@@ -193,12 +209,7 @@ pub fn fault_text(
 {
     match fault {
         SetupFault::Text { line, kind } => text_fault(alloc, *line, *kind),
-        SetupFault::Scene(fault) => {
-            let mut text = Vec::from_slice(alloc, b"scene fault: ")?;
-            text.extend_from_slice(&scene_text(alloc, config, *fault)?)?;
-            text.extend_from_slice(b"\n")?;
-            Ok(text)
-        }
+        SetupFault::Scene(fault) => scene_line(alloc, config, *fault),
         SetupFault::Link { link, kind } => link_text(alloc, *link, *kind),
         SetupFault::Uncovered(cycle) => uncovered_text(alloc, config, cycle),
         SetupFault::Memory => Ok(Vec::new(alloc)),
