@@ -1,6 +1,6 @@
 -- What each way to end says of the status and of the text.
-use Rattle.std.proofs.Common.{◌≡◌, ◌&&◌, ℕ, ◌<◌, ◌≤◌, lit<, Bool, true, false, List, [], ◌++◌, length, take, Option, Some, None, Ok, Err, refl, sym, ap, subst, ◌∙◌, inl, inr, arith, append-nil}
-use Rattle.std.specs.Prelude.{Result, IsTrue, IsOk, IfOk, is_some, Contains}
+use Rattle.std.proofs.Common.{◌≡◌, ◌&&◌, ◌⊎◌, ℕ, ◌<◌, ◌≤◌, lit<, Bool, true, false, List, [], ◌++◌, length, take, Option, Some, None, Ok, Err, refl, sym, ap, subst, ◌∙◌, inl, inr, arith, append-nil}
+use Rattle.std.specs.Prelude.{Result, IsOk, IfOk, is_some, Contains}
 use Rattle.std.proofs.lemmas.Bool.{and_parts, cases_lt}
 use Rattle.std.proofs.lemmas.List.{take_all}
 use Rattle.std.proofs.Math.Seq.{take-append_seam}
@@ -32,7 +32,7 @@ use Rattle.plain_run.specs.Plain as plain
 use Rattle.music_cli.specs.PlanTexts.{plan_text}
 use Rattle.music_cli.specs.Words.{command_of, are_accepted}
 use Rattle.music_cli.specs.Answers.{AnswersFault, AnswersUncovered, AnswersChecked, AnswersPlanned, AnswersScene, AnswersForm, AnswersConfig, AnswersText, AnswersCommand, Answers, CanDo, CanDoWith, number_of, status_of, outcomes_of, scene_outcomes, usage_text, read_fault_text, ok_text}
-use Rattle.music_cli.specs.Clauses.{Ends, ends, most_read, read_part, IsStatus, IsUsage, AnswersWhatWasRead, HasSomePrefix, HasAnswer, HasPrefix, IsComplete, IsSaid, IsGiven, IsRead, Ended, refused, unread, unfound, answered}
+use Rattle.music_cli.specs.Clauses.{Ends, ends, Untouched, Wrote, most_read, read_part, IsStatus, IsUsage, AnswersWhatWasRead, ReadAllThatCounts, WasRead, HasSomePrefix, HasAnswer, HasPrefix, IsComplete, IsSaid, IsGiven, IsRead, Ended, refused, unread, unfound, answered}
 use Rattle.music_cli.specs.declared.command_line.Command.{Command}
 use Rattle.music_cli.specs.declared.command_line.Command.TheVariants.{Check, Plan, Run}
 use Rattle.music_cli.specs.declared.status.Status.{Status}
@@ -320,33 +320,63 @@ outcome words source sink status (answered accepted bytes read given) = elim giv
   ]
 ]
 
-accepted_not_refused : (b : Bool) → IsTrue b → b ≡ false → ⊥
-accepted_not_refused true accepted not_so = absurd cc
-accepted_not_refused false accepted not_so = absurd cc
-
 -- the result is one of those that can come to the words
 pub is_status : (words : List (List ℕ)) (source sink : Ends) (status : Status) → Ended words source sink status → IsStatus words (number_of status)
 is_status words source sink status ended = (status, outcome words source sink status ended, refl)
 
-pub has_answer : (words : List (List ℕ)) (source sink : Ends) (status : Status) → Ended words source sink status → HasAnswer words source sink (number_of status)
-has_answer words source sink status (refused not_so untouched said) all is small = elim said.cases [
-  | inl done ↦ (Usage, usage_text, ap number_of done.0, usage_answer (command_of words) (read_part all) not_so, done.1)
-  | inr fault ↦ let seven : number_of status ≡ 7 = ap number_of fault.0 in absurd (omega (arith, seven, small))
+-- words are accepted or refused
+not_both_so : (accepted : Bool) → accepted ≡ true → accepted ≡ false → ⊥
+not_both_so accepted so not_so = absurd cc
+
+-- the statuses of a read fault, of a write fault and of want of memory are above 5
+too_great : (status other : Status) → status ≡ other → 5 < number_of other → number_of status ≤ 5 → ⊥
+too_great status other is great small = let same : number_of status ≡ number_of other = ap number_of is in above (number_of status) (number_of other) same great small
+  where
+    above : (m n : ℕ) → m ≡ n → 5 < n → m ≤ 5 → ⊥
+    above m n same great small = omega arith
+
+-- A call that ends with a status of at most 5: the words were refused, and the usage line was written; or an answer to what
+-- was read was written, whole.
+record IsUsageSaid (words : List (List ℕ)) (source sink : Ends) (status : Status) : Type 0 where
+  refused_so : are_accepted words ≡ false
+  untouched : Untouched source
+  is : status ≡ Usage
+  wrote : Wrote usage_text sink
+
+record IsAnswerSaid (words : List (List ℕ)) (source sink : Ends) (status : Status) : Type 0 where
+  accepted_so : are_accepted words ≡ true
+  bytes : List ℕ
+  read : IsRead bytes source
+  found : Status
+  text : List ℕ
+  is : number_of status ≡ number_of found
+  answers : Answers words bytes found text
+  wrote : Wrote text sink
+
+whole : (words : List (List ℕ)) (source sink : Ends) (status : Status) → Ended words source sink status → number_of status ≤ 5 → IsUsageSaid words source sink status ⊎ IsAnswerSaid words source sink status
+whole words source sink status (refused not_so untouched said) small = elim said.cases [
+  | inl done ↦ inl (record { refused_so = not_so; untouched = untouched; is = done.0; wrote = done.1 })
+  | inr fault ↦ absurd (too_great status WriteFault fault.0 (lit< tt) small)
 ]
-has_answer words source sink status (unread accepted failed said) all is small = elim said.cases [
-  | inl done ↦ let six : number_of status ≡ 6 = ap number_of done.0 in absurd (omega (arith, six, small))
-  | inr fault ↦ let seven : number_of status ≡ 7 = ap number_of fault.0 in absurd (omega (arith, seven, small))
+whole words source sink status (unread accepted failed said) small = elim said.cases [
+  | inl done ↦ absurd (too_great status ReadFault done.0 (lit< tt) small)
+  | inr fault ↦ absurd (too_great status WriteFault fault.0 (lit< tt) small)
 ]
-has_answer words source sink status (unfound accepted memory same) all is small =
-    let eight : number_of status ≡ 8 = ap number_of memory in absurd (omega (arith, eight, small))
-has_answer words source sink status (answered accepted bytes read given) all is small = elim given.cases [
-  | inl done ↦
-      let e : bytes ≡ read_part all = read_is source bytes all read is in
-      (given.status, given.text, ap number_of done.0, subst (λ (b : List ℕ). Answers words b given.status given.text) e given.found_so, done.1)
+whole words source sink status (unfound accepted memory same) small = absurd (too_great status NoMemory memory (lit< tt) small)
+whole words source sink status (answered accepted bytes read given) small = elim given.cases [
+  | inl done ↦ inr (record { accepted_so = accepted; bytes = bytes; read = read; found = given.status; text = given.text; is = ap number_of done.0; answers = given.found_so; wrote = done.1 })
   | inr gave_out ↦ elim gave_out [
-    | inl fault ↦ let seven : number_of status ≡ 7 = ap number_of fault.0 in absurd (omega (arith, seven, small))
-    | inr memory ↦ let eight : number_of status ≡ 8 = ap number_of memory in absurd (omega (arith, eight, small))
+    | inl fault ↦ absurd (too_great status WriteFault fault.0 (lit< tt) small)
+    | inr memory ↦ absurd (too_great status NoMemory memory (lit< tt) small)
   ]
+]
+
+pub has_answer : (words : List (List ℕ)) (source sink : Ends) (status : Status) → Ended words source sink status → HasAnswer words source sink (number_of status)
+has_answer words source sink status ended all is small = elim (whole words source sink status ended small) [
+  | inl usage ↦ (Usage, usage_text, ap number_of usage.is, usage_answer (command_of words) (read_part all) usage.refused_so, usage.wrote)
+  | inr answer ↦
+      let e : answer.bytes ≡ read_part all = read_is source answer.bytes all answer.read is in
+      (answer.found, answer.text, answer.is, subst (λ (b : List ℕ). Answers words b answer.found answer.text) e answer.answers, answer.wrote)
 ]
 
 pub has_prefix : (words : List (List ℕ)) (source sink : Ends) (status : Status) → Ended words source sink status → HasPrefix words source sink (number_of status)
@@ -362,9 +392,7 @@ has_prefix words source sink status (answered accepted bytes read given) all is 
 
 pub is_complete : (words : List (List ℕ)) (source sink : Ends) (status : Status) → Ended words source sink status → IsComplete words source sink (number_of status)
 is_complete words source sink status (refused not_so untouched said) command all named is can calm_source calm_sink =
-    let yes_accepted : are_accepted words ≡ true = ap is_some named in
-    let both : true ≡ false = sym yes_accepted ∙ not_so in
-    absurd cc
+    absurd (not_both_so (are_accepted words) (ap is_some named) not_so)
 is_complete words source sink status (unread yes_accepted failed said) command all named is can calm_source calm_sink = absurd (calm_source failed)
 is_complete words source sink status (unfound yes_accepted memory same) command all named is can calm_source calm_sink = inr (ap number_of memory)
 is_complete words source sink status (answered yes_accepted bytes read given) command all named is can calm_source calm_sink =
@@ -382,30 +410,41 @@ is_usage words source sink status (refused not_so untouched said) not_accepted =
   | inl done ↦ (inl (ap number_of done.0, done.1), untouched)
   | inr fault ↦ (inr (ap number_of fault.0, said.prefix), untouched)
 ]
-is_usage words source sink status (unread yes_accepted failed said) not_accepted = let both : true ≡ false = sym yes_accepted ∙ not_accepted in absurd cc
-is_usage words source sink status (unfound yes_accepted memory same) not_accepted = let both : true ≡ false = sym yes_accepted ∙ not_accepted in absurd cc
-is_usage words source sink status (answered yes_accepted bytes read given) not_accepted = let both : true ≡ false = sym yes_accepted ∙ not_accepted in absurd cc
+is_usage words source sink status (unread yes_accepted failed said) not_accepted = absurd (not_both_so (are_accepted words) yes_accepted not_accepted)
+is_usage words source sink status (unfound yes_accepted memory same) not_accepted = absurd (not_both_so (are_accepted words) yes_accepted not_accepted)
+is_usage words source sink status (answered yes_accepted bytes read given) not_accepted = absurd (not_both_so (are_accepted words) yes_accepted not_accepted)
 
 -- accepted words get an answer to what was read
 pub answers_what_was_read : (words : List (List ℕ)) (source sink : Ends) (status : Status) → Ended words source sink status → AnswersWhatWasRead words source sink (number_of status)
-answers_what_was_read words source sink status (refused not_so untouched said) accepted small = absurd (accepted_not_refused (are_accepted words) accepted not_so)
-answers_what_was_read words source sink status (unread yes_accepted failed said) accepted small = elim said.cases [
-  | inl done ↦ let six : number_of status ≡ 6 = ap number_of done.0 in absurd (omega (arith, six, small))
-  | inr fault ↦ let seven : number_of status ≡ 7 = ap number_of fault.0 in absurd (omega (arith, seven, small))
+answers_what_was_read words source sink status ended accepted small = elim (whole words source sink status ended small) [
+  | inl usage ↦ absurd (not_both_so (are_accepted words) accepted usage.refused_so)
+  | inr answer ↦ (answer.bytes, answer.read, answer.found, answer.text, answer.is, answer.answers, answer.wrote)
 ]
-answers_what_was_read words source sink status (unfound yes_accepted memory same) accepted small =
-    let eight : number_of status ≡ 8 = ap number_of memory in absurd (omega (arith, eight, small))
-answers_what_was_read words source sink status (answered yes_accepted bytes read given) accepted small = elim given.cases [
-  | inl done ↦ (bytes, read, given.status, given.text, ap number_of done.0, given.found_so, done.1)
-  | inr gave_out ↦ elim gave_out [
-    | inl fault ↦ let seven : number_of status ≡ 7 = ap number_of fault.0 in absurd (omega (arith, seven, small))
-    | inr memory ↦ let eight : number_of status ≡ 8 = ap number_of memory in absurd (omega (arith, eight, small))
-  ]
+
+untouched_if : (words : List (List ℕ)) (source sink : Ends) (status : Status) → Ended words source sink status → are_accepted words ≡ false → Untouched source
+untouched_if words source sink status (refused not_so untouched said) not_accepted = untouched
+untouched_if words source sink status (unread yes_accepted failed said) not_accepted = absurd (not_both_so (are_accepted words) yes_accepted not_accepted)
+untouched_if words source sink status (unfound yes_accepted memory same) not_accepted = absurd (not_both_so (are_accepted words) yes_accepted not_accepted)
+untouched_if words source sink status (answered yes_accepted bytes read given) not_accepted = absurd (not_both_so (are_accepted words) yes_accepted not_accepted)
+
+at_end_or_most : (source : Ends) (bytes : List ℕ) → IsRead bytes source → ReadAllThatCounts source
+at_end_or_most source bytes read = elim (cases_lt (length bytes) most_read) [
+  | inl less ↦ (bytes, read.gave, inl (read.whole less))
+  | inr more ↦ (bytes, read.gave, inr (omega (arith, read.size, more)))
 ]
+
+-- of the source nothing was read, or all that counts
+pub was_read : (words : List (List ℕ)) (source sink : Ends) (status : Status) → Ended words source sink status → WasRead words source (number_of status)
+was_read words source sink status ended = record {
+  refused = untouched_if words source sink status ended;
+  accepted = λ accepted small.
+      let answer = answers_what_was_read words source sink status ended accepted small in
+      at_end_or_most source answer.0 answer.1;
+}
 
 -- or a prefix of one, or of the text of a read fault
 pub some_prefix : (words : List (List ℕ)) (source sink : Ends) (status : Status) → Ended words source sink status → HasSomePrefix words source sink (number_of status)
-some_prefix words source sink status (refused not_so untouched said) accepted gave_out = absurd (accepted_not_refused (are_accepted words) accepted not_so)
+some_prefix words source sink status (refused not_so untouched said) accepted gave_out = absurd (not_both_so (are_accepted words) accepted not_so)
 some_prefix words source sink status (unread yes_accepted failed said) accepted gave_out = (read_fault_text, inr (inl (refl, failed)), said.prefix)
 some_prefix words source sink status (unfound yes_accepted memory same) accepted gave_out =
     ([], inr (inr (refl, ap number_of memory)), subst (λ (after : Option (List ℕ)). TookPrefix sink.before [] after) (sym same) (TookPrefix-nothing sink.before []))

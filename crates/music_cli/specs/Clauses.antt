@@ -87,6 +87,16 @@ abbrev pub AnswersWhatWasRead : List (List ℕ) → Ends → Ends → ℕ → Ty
 AnswersWhatWasRead words source sink result = IsTrue (are_accepted words) → result ≤ 5 →
     (bytes : List ℕ) × IsRead bytes source × (status : Status) × (text : List ℕ) × (result ≡ number_of status) × Answers words bytes status text × Wrote text sink
 
+-- all that a source had left was read, or one byte more than the longest text has
+abbrev pub ReadAllThatCounts : Ends → Type 0
+ReadAllThatCounts source = (bytes : List ℕ) × Gave source.before bytes source.after × (IsAtEnd source.after ⊎ (length bytes ≡ most_read))
+
+-- refused words leave the source untouched; and where accepted words get a status below that of a read fault, all that
+-- counts of it was read
+pub record WasRead (words : List (List ℕ)) (source : Ends) (result : ℕ) : Type 0 where
+  pub refused : are_accepted words ≡ false → Untouched source
+  pub accepted : IsTrue (are_accepted words) → result ≤ 5 → ReadAllThatCounts source
+
 -- the text of an answer to these words and bytes that were read of the source, that of a read fault where the source
 -- failed, and none where memory gave out
 abbrev pub IsSomeText : List (List ℕ) → Ends → ℕ → List ℕ → Type 0

@@ -16,6 +16,7 @@ ghost use Rattle.music_cli.specs.Clauses.{
   IsUsage,
   NotUsage,
   ReadsNoMore,
+  WasRead,
 };
 
 use crate::answering::answer_text;
@@ -94,6 +95,8 @@ pub fn music_alone<S: Source, K: Sink>(
     ensures answers_what_was_read { AnswersWhatWasRead (texts words.now.items)
         (ends (S.left source.old) (S.left source.new) (S.faults source.old) (S.faults source.new))
         (ends (K.taken sink.old) (K.taken sink.new) (K.faults sink.old) (K.faults sink.new)) result }
+    ensures what_was_read_of_the_source { WasRead (texts words.now.items)
+        (ends (S.left source.old) (S.left source.new) (S.faults source.old) (S.faults source.new)) result }
     ensures some_prefix { HasSomePrefix (texts words.now.items)
         (ends (S.left source.old) (S.left source.new) (S.faults source.old) (S.faults source.new))
         (ends (K.taken sink.old) (K.taken sink.new) (K.faults sink.old) (K.faults sink.new)) result }
@@ -142,6 +145,8 @@ pub fn music<R: Threads + Wait + Sync, S: Source, K: Sink, G: Gate>(
     ensures answers_what_was_read { AnswersWhatWasRead (texts words.now.items)
         (ends (S.left source.old) (S.left source.new) (S.faults source.old) (S.faults source.new))
         (ends (K.taken sink.old) (K.taken sink.new) (K.faults sink.old) (K.faults sink.new)) result }
+    ensures what_was_read_of_the_source { WasRead (texts words.now.items)
+        (ends (S.left source.old) (S.left source.new) (S.faults source.old) (S.faults source.new)) result }
     ensures some_prefix { HasSomePrefix (texts words.now.items)
         (ends (S.left source.old) (S.left source.new) (S.faults source.old) (S.faults source.new))
         (ends (K.taken sink.old) (K.taken sink.new) (K.faults sink.old) (K.faults sink.new)) result }

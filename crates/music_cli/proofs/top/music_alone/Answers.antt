@@ -1,4 +1,4 @@
-use Rattle.music_cli.proofs.Endings.{answers_what_was_read, has_answer, has_prefix, is_complete, is_status, is_usage, some_prefix}
+use Rattle.music_cli.proofs.Endings.{answers_what_was_read, has_answer, has_prefix, is_complete, is_status, is_usage, some_prefix, was_read}
 use Rattle.music_cli.proofs.LiveScenes.{is_live}
 use Rattle.music_cli.proofs.top.music_alone.Goals as goal
 
@@ -19,6 +19,9 @@ returns-clause-refused_words_are_usage g c = rw (c.number.ensures, ← c.deref.e
 
 pub returns-clause-answers_what_was_read : goal.returns-clause-answers_what_was_read
 returns-clause-answers_what_was_read g c = rw (c.number.ensures, ← c.deref.ensures.value) (answers_what_was_read _ _ _ _ c.answer-status.ensures.ended)
+
+pub returns-clause-what_was_read_of_the_source : goal.returns-clause-what_was_read_of_the_source
+returns-clause-what_was_read_of_the_source g c = rw (c.number.ensures, ← c.deref.ensures.value) (was_read _ _ _ _ c.answer-status.ensures.ended)
 
 pub returns-clause-some_prefix : goal.returns-clause-some_prefix
 returns-clause-some_prefix g c = rw (c.number.ensures, ← c.deref.ensures.value) (some_prefix _ _ _ _ c.answer-status.ensures.ended)
