@@ -1,5 +1,5 @@
 -- One of the heights is set, and the others are as they were.
-use Rattle.std.proofs.Common.{◌≡◌, ◌≢◌, ℕ, zero, suc, ◌<◌, List, length, replicate, set, get_or, slice_index, ap, ◌∙◌, refl, arith}
+use Rattle.std.proofs.Common.{◌≡◌, ℕ, zero, suc, List, length, replicate, slice_index, ap, ◌∙◌, refl, arith}
 use Rattle.std.proofs.lemmas.List.{get_or-set_other, get_or-set_same, length-replicate, length-set}
 use Rattle.tick_plan.proofs.least.starts_above.Goals as goal
 
