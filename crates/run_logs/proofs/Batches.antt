@@ -1,5 +1,5 @@
 -- Rows that are written batch by batch.
-use Rattle.std.proofs.Common.{◌≡◌, ℕ, List, [], ◌++◌, take, drop, length, true, ◌&&◌, refl, sym, ap, ◌∙◌, append-nil, append_assoc, None, Some}
+use Rattle.std.proofs.Common.{◌≡◌, ℕ, List, [], ◌++◌, take, drop, true, ◌&&◌, refl, sym, ap, ◌∙◌, append-nil, append_assoc, None, Some}
 use Rattle.std.specs.Prelude.{Option}
 use Rattle.std.specs.List.{flat_map, list_all}
 use Rattle.std.proofs.lemmas.Bool.{and_parts}
@@ -7,7 +7,7 @@ use Rattle.std.proofs.lemmas.List.{take-append-drop}
 use Rattle.std.proofs.lemmas.List.Concat.{flat_map-append}
 use Rattle.std.proofs.lemmas.List.Folds.{list_all-append}
 use Rattle.music_base.specs.Outside.{Took, TookPrefix}
-use Rattle.music_base.proofs.Transfers.{Took-append, TookPrefix-front, TookPrefix-behind, TookPrefix-whole, TookPrefix-nothing}
+use Rattle.music_base.proofs.Transfers.{Took-append, TookPrefix-front, TookPrefix-behind, TookPrefix-whole}
 use Rattle.scene_model.specs.Logs.{line_of, is_writable}
 use Rattle.scene_model.specs.declared.scene.Scene.{Scene}
 use Rattle.scene_model.specs.declared.row.Row.{Row}

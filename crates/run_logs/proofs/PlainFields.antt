@@ -1,9 +1,9 @@
 -- Fields that no byte sets apart are written as they stand.
-use Rattle.std.proofs.Common.{◌≡◌, ◌≢◌, ℕ, zero, suc, ◌+◌, ◌<◌, ◌≤◌, Bool, true, false, cond, not, eqb, leb, ◌&&◌, ◌||◌, List, [], ◌∷◌, ◌++◌, length, refl, sym, ap, ◌∙◌, inl, inr, arith, append-nil, Some, None}
+use Rattle.std.proofs.Common.{◌≡◌, ◌≢◌, ℕ, ◌<◌, ◌≤◌, Bool, true, false, eqb, leb, ◌&&◌, ◌||◌, List, [], ◌∷◌, ◌++◌, length, refl, sym, ap, ◌∙◌, inl, inr, arith, append-nil, Some, None}
 use Rattle.std.specs.List.{list_any, list_all, join_with_byte}
 use Rattle.std.specs.Char.{is_ascii_alphanumeric}
-use Rattle.std.proofs.lemmas.Bool.{and_parts, and_from, or_from, or_cases, leb-true, eqb-true, agree_below, agree_below_at}
-use Rattle.csv.specs.Writing.{default_writer, needs_byte, needs_quotes, field_text, fields_text, row_body, row_text, is_blank}
+use Rattle.std.proofs.lemmas.Bool.{and_parts, or_from, or_cases, leb-true, eqb-true, agree_below_at}
+use Rattle.csv.specs.Writing.{default_writer, needs_byte, needs_quotes, field_text, fields_text, row_text, is_blank}
 use Rattle.std.specs.Prelude.{Option, unwrap_or}
 use Rattle.music_base.specs.Names.{is_in_words}
 use Rattle.scene_model.specs.Logs.{comma, line_end}

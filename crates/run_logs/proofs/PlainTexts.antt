@@ -1,15 +1,15 @@
 -- Numbers, names and words have plain bytes alone.
-use Rattle.std.proofs.Common.{◌≡◌, ℕ, zero, suc, ◌+◌, ◌<◌, ◌≤◌, ◌/◌, ◌%◌, ◌^◌, Bool, true, false, ◌&&◌, ◌||◌, List, [], ◌∷◌, ◌++◌, refl, inl, inr, arith, get_or, length}
+use Rattle.std.proofs.Common.{◌≡◌, ℕ, suc, ◌+◌, ◌<◌, ◌%◌, ◌^◌, true, List, [], ◌∷◌, refl, arith}
 use Rattle.std.specs.Prelude.{ℤ, pos, negsuc}
 use Rattle.std.specs.List.{list_all}
 use Rattle.std.specs.Fmt.{decimal, signed_decimal}
-use Rattle.std.proofs.lemmas.Bool.{and_parts, and_from, or_from, agree_below, agree_below_at}
+use Rattle.std.proofs.lemmas.Bool.{and_parts, and_from, agree_below_at}
 use Rattle.std.proofs.lemmas.Fmt.{decimal_by_steps}
 use Rattle.std.proofs.lemmas.Int.{ints}
 use Rattle.std.specs.Int.{w64}
 use Rattle.std.proofs.Common.{SFits}
 use Rattle.std.proofs.lemmas.List.Folds.{list_all-append}
-use Rattle.music_base.specs.Names.{is_in_names, is_in_words, is_name, begins_name, is_word}
+use Rattle.music_base.specs.Names.{is_in_names, is_in_words, is_name, is_word}
 
 digit_is_plain : (n : ℕ) → n < 10 → is_in_words (48 + n) ≡ true
 digit_is_plain n lt = agree_below_at (λ n. is_in_words (48 + n)) (λ n. true) 10 n refl lt

@@ -1,4 +1,4 @@
-use Rattle.std.proofs.Common.{◌∙◌, ◌≡◌}
+use Rattle.std.proofs.Common.{◌∙◌}
 use Rattle.run_logs.proofs.PlainTexts.{decimal_is_plain}
 use Rattle.run_logs.proofs.fields.digits.Goals as goal
 

@@ -1,5 +1,5 @@
 use Rattle.std.proofs.lemmas.List.{length-map}
-use Rattle.run_logs.proofs.PlainFields.{WroteLine, one_more_line}
+use Rattle.run_logs.proofs.PlainFields.{one_more_line}
 use Rattle.run_logs.proofs.lines.push_line.Goals as goal
 
 pub returns-in-Ok : goal.returns-in-Ok
