@@ -6,11 +6,12 @@ ghost use Rattle.music_base.specs.Names.{is_in_words};
 ghost use Rattle.scene_model.specs.Logs.{is_writable, line_of};
 ghost use Rattle.scene_model.specs.Scenes.{app_at, port_at};
 ghost use Rattle.run_logs.specs.CsvLines.{IsAtLineStart, written};
+ghost use Rattle.run_logs.specs.ItemFields.{AreFieldsOf};
 
 use crate::lines::push_line;
 use csv::Writer;
 use itoa::Buffer;
-use music_base::{Name, Nanos, NoMemory, Sample, Word};
+use music_base::{Name, NoMemory};
 use scene_model::{Row, RowItem, Scene};
 
 /// A number in decimal digits.
@@ -51,78 +52,27 @@ fn names_of<'a>(scene: &'a Scene, row: &Row) -> (&'a [u8], &'a [u8])
     (name_field(&app.name), name_field(&port.name))
 }
 
-/// Writes the line of a row that tells of an event.
-#[tactic(auto, unfolding(scene_model::specs::Logs::line_of))]
-fn push_event(
-    writer: &mut Writer<Vec<u8>>,
-    scene: &Scene,
-    row: &Row,
+/// The fields that depend on what a row tells.
+#[derive(Clone, Copy)]
+struct ItemFields<'a> {
+    kind: &'a [u8],
     local: u32,
     global: u32,
-    time: Nanos,
-) -> Result<(), NoMemory>
-    requires start { IsAtLineStart (λ v. Some v.items) writer.old }
-    requires writable { is_writable scene.now row.now ≡ true }
-    requires event { row.now.item ≡ RowItem.Event local global time }
-    ensures line { OnOk result (written (λ v. Some v.items) writer.new ≡ written (λ v. Some v.items) writer.old ++ line_of scene.now row.now) }
-    ensures start { OnOk result (IsAtLineStart (λ v. Some v.items) writer.new) }
-{
-    let (app, port) = names_of(scene, row);
-    let (mut first, mut second, mut third) = (Buffer::new(), Buffer::new(), Buffer::new());
-    let (mut fourth, mut fifth) = (Buffer::new(), Buffer::new());
-    let clock = digits(&mut first, row.clock.0);
-    let rank = digits(&mut second, u64::from(row.rank.0));
-    let local = digits(&mut third, u64::from(local));
-    let global = digits(&mut fourth, u64::from(global));
-    let time = digits(&mut fifth, time.0);
-    push_line(
-        writer,
-        &[clock, app, port, b"event", rank, local, global, time, b""],
-    )
+    time: &'a [u8],
+    value: &'a [u8],
 }
 
-/// Writes the line of a row that tells of a value.
+/// Writes the line of a row whose own fields are these.
 #[tactic(auto, unfolding(scene_model::specs::Logs::line_of))]
-fn push_value(
+fn push_fields(
     writer: &mut Writer<Vec<u8>>,
     scene: &Scene,
     row: &Row,
-    local: u32,
-    global: u32,
-    value: Sample,
+    fields: &ItemFields<'_>,
 ) -> Result<(), NoMemory>
     requires start { IsAtLineStart (λ v. Some v.items) writer.old }
     requires writable { is_writable scene.now row.now ≡ true }
-    requires value { row.now.item ≡ RowItem.Value local global value }
-    ensures line { OnOk result (written (λ v. Some v.items) writer.new ≡ written (λ v. Some v.items) writer.old ++ line_of scene.now row.now) }
-    ensures start { OnOk result (IsAtLineStart (λ v. Some v.items) writer.new) }
-{
-    let (app, port) = names_of(scene, row);
-    let (mut first, mut second, mut third) = (Buffer::new(), Buffer::new(), Buffer::new());
-    let (mut fourth, mut fifth) = (Buffer::new(), Buffer::new());
-    let clock = digits(&mut first, row.clock.0);
-    let rank = digits(&mut second, u64::from(row.rank.0));
-    let local = digits(&mut third, u64::from(local));
-    let global = digits(&mut fourth, u64::from(global));
-    let value = signed_digits(&mut fifth, value.0);
-    push_line(
-        writer,
-        &[clock, app, port, b"cont", rank, local, global, b"", value],
-    )
-}
-
-/// Writes the line of a row that tells of a message.
-#[tactic(auto, using(crate::proofs::PlainTexts::word_is_plain), unfolding(scene_model::specs::Logs::line_of, scene_model::specs::Logs::is_writable))]
-fn push_message(
-    writer: &mut Writer<Vec<u8>>,
-    scene: &Scene,
-    row: &Row,
-    time: Nanos,
-    word: &Word,
-) -> Result<(), NoMemory>
-    requires start { IsAtLineStart (λ v. Some v.items) writer.old }
-    requires writable { is_writable scene.now row.now ≡ true }
-    requires message { row.now.item ≡ RowItem.Message time word.now }
+    requires fields { AreFieldsOf row.now.item fields.now }
     ensures line { OnOk result (written (λ v. Some v.items) writer.new ≡ written (λ v. Some v.items) writer.old ++ line_of scene.now row.now) }
     ensures start { OnOk result (IsAtLineStart (λ v. Some v.items) writer.new) }
 {
@@ -131,33 +81,59 @@ fn push_message(
     let (mut third, mut fourth) = (Buffer::new(), Buffer::new());
     let clock = digits(&mut first, row.clock.0);
     let rank = digits(&mut second, u64::from(row.rank.0));
-    let zero = digits(&mut third, 0);
-    let time = digits(&mut fourth, time.0);
-    let word = word.as_slice();
+    let local = digits(&mut third, u64::from(fields.local));
+    let global = digits(&mut fourth, u64::from(fields.global));
+    let ItemFields {
+        kind,
+        time,
+        value,
+        ..
+    } = *fields;
     push_line(
         writer,
-        &[clock, app, port, b"message", rank, zero, zero, time, word],
+        &[clock, app, port, kind, rank, local, global, time, value],
     )
 }
 
 /// Writes the line of a row.
+#[tactic(auto, using(crate::proofs::PlainTexts::word_is_plain), unfolding(scene_model::specs::Logs::is_writable))]
 pub fn push_row(writer: &mut Writer<Vec<u8>>, scene: &Scene, row: &Row) -> Result<(), NoMemory>
     requires start { IsAtLineStart (λ v. Some v.items) writer.old }
     requires writable { is_writable scene.now row.now ≡ true }
     ensures line { OnOk result (written (λ v. Some v.items) writer.new ≡ written (λ v. Some v.items) writer.old ++ line_of scene.now row.now) }
     ensures start { OnOk result (IsAtLineStart (λ v. Some v.items) writer.new) }
 {
-    match &row.item {
+    let mut buffer = Buffer::new();
+    let fields = match &row.item {
         RowItem::Event {
             local,
             global,
             time,
-        } => push_event(writer, scene, row, *local, *global, *time),
+        } => ItemFields {
+            kind: b"event",
+            local: *local,
+            global: *global,
+            time: digits(&mut buffer, time.0),
+            value: b"",
+        },
         RowItem::Value {
             local,
             global,
             value,
-        } => push_value(writer, scene, row, *local, *global, *value),
-        RowItem::Message { time, word } => push_message(writer, scene, row, *time, word),
-    }
+        } => ItemFields {
+            kind: b"cont",
+            local: *local,
+            global: *global,
+            time: b"",
+            value: signed_digits(&mut buffer, value.0),
+        },
+        RowItem::Message { time, word } => ItemFields {
+            kind: b"message",
+            local: 0,
+            global: 0,
+            time: digits(&mut buffer, time.0),
+            value: word.as_slice(),
+        },
+    };
+    push_fields(writer, scene, row, &fields)
 }
