@@ -3,7 +3,7 @@ use Rattle.std.proofs.Common.{◌≡◌, ℕ, ℤ, true, List}
 use Rattle.std.specs.Prelude.{Some, IfSome, codes}
 use Rattle.std.specs.Cmp.Derive.{both_true}
 use Rattle.music_base.specs.Names.{is_name, is_word}
-use Rattle.text_words.specs.Counts.{fixed}
+use Rattle.text_words.specs.Numbers.{fixed}
 use Rattle.scene_model.specs.declared.rule.Rule.{Rule}
 use Rattle.app_scripts.specs.Forms.{Words, name_word, index_word, time_word, shift_word, scale_word, message_word, name_after, time_after, fixed_after, shift_after, scale_after, last_time_after, last_fixed_after, first, only, emit_at, emit_every, pass, set_value, ramp, copy_values, when_over, say, reply, rule_in}
 use Rattle.scene_model.specs.Limits.{greatest_shift}

@@ -5,9 +5,11 @@ use Rattle.std.specs.List.{before_first, after_first}
 use Rattle.std.specs.Str.Parse.{digits_value, starts_with_minus, without_leading_sign}
 use Rattle.std.proofs.lemmas.Bool.{le-leb}
 use Rattle.music_base.specs.Names.{is_name, is_word}
-use Rattle.text_words.specs.Counts.{count_up_to, with_sign, signed_within, is_decimal, whole, fraction, worth, millionths, without_minus, fixed, most_whole_digits, most_fraction_digits}
+use Rattle.music_base.specs.Counts.{count_up_to}
+use Rattle.text_words.specs.Numbers.{with_sign, signed_within, is_decimal, whole, fraction, worth, millionths, without_minus, fixed, most_whole_digits, most_fraction_digits}
 use Rattle.text_words.specs.Parts.{is_byte}
-use Rattle.text_words.proofs.Digits.{digits_value-below, worth_below, whole_is_few, fraction_is_few}
+use Rattle.music_base.proofs.DigitValues.{digits_value-below}
+use Rattle.text_words.proofs.Digits.{worth_below, whole_is_few, fraction_is_few}
 use Rattle.app_scripts.specs.Forms.{name_word, index_word, time_word, shift_word, slash, scale_word, message_word}
 use Rattle.scene_model.specs.Spellable.{is_index, is_time, lies_within, is_value, is_denominator}
 use Rattle.text_words.proofs.Options.{IfSome-bind, IfSome-when, IfSome-map, count_up_to-is}

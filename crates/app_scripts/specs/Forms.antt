@@ -4,7 +4,8 @@ use Rattle.std.specs.List.{before_first, after_first}
 use Rattle.std.specs.Result.{result_ok}
 use Rattle.music_base.specs.Names.{is_name, is_word}
 use Rattle.music_base.specs.Times.{time_value}
-use Rattle.text_words.specs.Counts.{count_up_to, signed_within, fixed}
+use Rattle.music_base.specs.Counts.{count_up_to}
+use Rattle.text_words.specs.Numbers.{signed_within, fixed}
 use Rattle.text_words.specs.Options.{◌>>=◌, ◌when◌, first_some}
 use Rattle.text_words.specs.Parts.{is_byte}
 use Rattle.scene_model.specs.Limits.{greatest_shift, greatest_numerator, greatest_denominator, greatest_index}

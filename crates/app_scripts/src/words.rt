@@ -4,7 +4,7 @@ ghost use Rattle.std.specs.Prelude.{◌≡◌, option_copied, option_map};
 ghost use Rattle.std.specs.List.{list_all};
 ghost use Rattle.music_base.specs.Names.{is_in_words, is_word};
 ghost use Rattle.text_words.specs.Words.{words};
-ghost use Rattle.text_words.specs.Counts.{fixed};
+ghost use Rattle.text_words.specs.Numbers.{fixed};
 ghost use Rattle.app_scripts.specs.Forms.{
   after,
   first,

@@ -10,7 +10,7 @@ use Rattle.config_text.specs.declared.text_kind.TextKind.{TextKind}
 use Rattle.config_text.specs.declared.text_kind.TextKind.TheVariants.{Unbuilt}
 use Rattle.config_text.specs.Bytes.{close_bracket, is_quote, is_equals, is_point, is_open_bracket, is_text_byte}
 use Rattle.config_text.specs.Parts.{◌>>=◌, without_cr, before_comment, trimmed, ends_in, between_ends, without_last, name_in, is_value}
-use Rattle.config_text.specs.Counts.{is_count}
+use Rattle.music_base.specs.Counts.{is_count}
 use Rattle.config_text.specs.Connections.{split_at_arrow, end_in, width_in, most_width, link_between, connection_with_width, connection_without_width, connection_between, connection_at, connection_in, is_width, is_link}
 use Rattle.config_text.specs.Contents.{Content, section, setting, connection, is_quoted, value_in, section_in, is_setting, setting_in, content_in, content_of, is_lawful}
 use Rattle.config_text.proofs.TextBytes.{list_all-drop, text-trimmed, quoted_value, plain_value}

@@ -3,7 +3,6 @@ pub mod Ends
 pub mod Comments
 pub mod CommentRule
 pub mod Arrows
-pub mod DigitCounts
 pub mod Ending
 pub mod LastSection
 pub mod Keeping

@@ -2,9 +2,10 @@
 use Rattle.std.proofs.Common.{◌≡◌, ℕ, ◌<◌, Bool, true, false, not, eqb, leb, ◌&&◌, ◌||◌, List, [], ◌∷◌, length, get_or, refl, inl, inr, arith, lit<}
 use Rattle.std.specs.Char.{is_ascii_alphanumeric}
 use Rattle.std.specs.List.{list_any, list_all}
-use Rattle.std.proofs.lemmas.Bool.{and_parts, and_from, or_from, or_cases, leb-true, eqb-true, agree_below, agree_below_at}
+use Rattle.std.proofs.lemmas.Bool.{and_parts, or_from, or_cases, leb-true, eqb-true, agree_below, agree_below_at}
 use Rattle.music_base.specs.Names.{is_name, is_in_names, begins_name}
 use Rattle.config_text.specs.Bytes.{is_text_byte}
+use Rattle.config_text.proofs.Firsts.{all-weaker}
 
 below_from_range : (low high b : ℕ) → high < 128 → (leb low b && leb b high) ≡ true → b < 128
 below_from_range low high b top within =
@@ -45,10 +46,7 @@ none_in_name p misses (x ∷ xs) all =
 
 -- bytes of names are bytes of the text
 pub all_text : (xs : List ℕ) → list_all is_in_names xs ≡ true → list_all is_text_byte xs ≡ true
-all_text [] all = refl
-all_text (x ∷ xs) all =
-    let parts = and_parts (is_in_names x) (list_all is_in_names xs) all in
-    and_from (is_text_byte x) _ (not_false (is_text_byte x) (name_byte_misses (λ b. not (is_text_byte b)) refl x parts.0)) (all_text xs parts.1)
+all_text = all-weaker is_in_names is_text_byte (λ b is. not_false (is_text_byte b) (name_byte_misses (λ c. not (is_text_byte c)) refl b is))
   where
     not_false : (t : Bool) → not t ≡ false → t ≡ true
     not_false true e = refl

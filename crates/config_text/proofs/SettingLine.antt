@@ -15,7 +15,7 @@ use Rattle.config_text.specs.Parts.{◌>>=◌, without_cr, before_comment_after,
 use Rattle.config_text.specs.Connections.{split_at_arrow}
 use Rattle.config_text.specs.Contents.{Content, setting, is_quoted, value_in, is_setting, setting_in, content_in, content_of}
 use Rattle.config_text.specs.Inner.{IsSettingFront, is_plain_byte, value_behind, setting_before}
-use Rattle.config_text.proofs.Firsts.{all-append, any-middle}
+use Rattle.config_text.proofs.Firsts.{all-weaker, all-append, any-middle}
 use Rattle.config_text.proofs.NameBytes.{misses_names, name_byte_misses, name_parts}
 use Rattle.config_text.proofs.Ends.{last_apart, leading_yes, leading_no, trailing_yes, trailing_no, trailing-push_yes, trailing-push_no}
 use Rattle.config_text.proofs.Alone.{comment-passes, no_cr_in_text}
@@ -91,10 +91,7 @@ all_trailing (suc n) xs le all =
     ]
 
 named_front : (xs : List ℕ) → list_all is_in_names xs ≡ true → list_all is_front_byte xs ≡ true
-named_front [] all = refl
-named_front (x ∷ xs) all =
-    let parts = and_parts (is_in_names x) (list_all is_in_names xs) all in
-    and_from _ _ (or_right (is_blank x) (is_in_names x) parts.0) (named_front xs parts.1)
+named_front xs all = all-weaker is_in_names is_front_byte (λ b is. or_right (is_blank b) (is_in_names b) is) xs all
 
 found_name : (t : Bool) (text name : List ℕ) → cond t (Ok text) (Err BadName) ≡ Ok name → t ≡ true
 found_name true text name e = refl

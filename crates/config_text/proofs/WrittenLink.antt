@@ -6,7 +6,6 @@ use Rattle.std.specs.Char.{is_ascii_digit}
 use Rattle.std.specs.Fmt.{decimal}
 use Rattle.std.specs.Str.Parse.{AllDigits}
 use Rattle.std.proofs.lemmas.Fmt.{decimal_is_IsNumeral}
-use Rattle.std.proofs.lemmas.Str.Parse.{digit_from_value}
 use Rattle.std.specs.List.{list_any, list_all, before_first, after_first}
 use Rattle.std.proofs.lemmas.Bool.{and_parts, and_from, or_from, or_parts, or_left, leb-true, le-leb, lt-ltb, true≢false}
 use Rattle.std.proofs.lemmas.List.{length-append, take_at, append-nil}
@@ -15,10 +14,11 @@ use Rattle.music_base.specs.Names.{is_name, is_in_names}
 use Rattle.config_text.specs.Bytes.{space, point, open_bracket, close_bracket, arrow, is_blank, is_text_byte, is_quote, is_comment_sign, is_equals, is_point, is_open_bracket}
 use Rattle.config_text.specs.Parts.{◌>>=◌, before_comment_after, without_trailing_blanks, trimmed, begins_with_blank, ends_with_blank, ends_in}
 use Rattle.config_text.specs.declared.link_text.LinkText.{LinkText}
-use Rattle.config_text.specs.Counts.{is_count}
+use Rattle.music_base.specs.Counts.{is_count}
 use Rattle.config_text.specs.Connections.{split_at_arrow, end_in, width_in, link_between, connection_between, connection_at, connection_in, is_width, is_link, end_text, width_text, link_line}
 use Rattle.config_text.specs.Contents.{connection, is_setting, content_in, content_of}
-use Rattle.config_text.proofs.Firsts.{before-past, any-append, all-append, any-middle, and_false}
+use Rattle.config_text.proofs.Firsts.{before-past, any-append, all-append, all-weaker, any-middle, and_false}
+use Rattle.music_base.proofs.DigitValues.{are_ascii_digits}
 use Rattle.music_base.proofs.FirstPlaces.{before_first-at, after_first-at}
 use Rattle.config_text.proofs.NameBytes.{name_byte_misses, misses_names, none_in_name, all_text, name_parts}
 use Rattle.config_text.proofs.Ends.{leading_no, trailing_no, leading_yes, trailing-push_yes, second_fails}
@@ -28,20 +28,11 @@ use Rattle.config_text.proofs.LinkParts.{link_parts}
 
 -- ---- the digits of a width
 
-pub record DigitParts (digits : List ℕ) : Type 0 where
-  pub digits_are : list_all is_ascii_digit digits ≡ true
-  pub in_names : list_all is_in_names digits ≡ true
+digit_in_names : (b : ℕ) → is_ascii_digit b ≡ true → is_in_names b ≡ true
+digit_in_names b is = or_left _ (eqb b 95) (or_left _ (leb 97 b && leb b 122) (or_left (leb 48 b && leb b 57) (leb 65 b && leb b 90) is))
 
-digits_parts : (ds : List ℕ) → AllDigits 10 ds → DigitParts ds
-digits_parts [] digits = record { digits_are = refl; in_names = refl }
-digits_parts (c ∷ cs) digits =
-    let r = digit_from_value c digits.0 in
-    let one : is_ascii_digit c ≡ true = and_from (leb 48 c) (leb c 57) (le-leb 48 c r.0) (le-leb c 57 r.1) in
-    let others = digits_parts cs digits.1 in
-    record {
-      digits_are = and_from (is_ascii_digit c) _ one others.digits_are;
-      in_names = and_from (is_in_names c) _ (or_left _ (eqb c 95) (or_left _ (leb 97 c && leb c 122) (or_left (leb 48 c && leb c 57) (leb 65 c && leb c 90) one))) others.in_names;
-    }
+digits_in_names : (ds : List ℕ) → AllDigits 10 ds → list_all is_in_names ds ≡ true
+digits_in_names ds digits = all-weaker is_ascii_digit is_in_names digit_in_names ds (are_ascii_digits ds digits)
 
 -- bytes of names, at least one, have no blank at their ends
 word_begins : (xs rest : List ℕ) → 0 < length xs → list_all is_in_names xs ≡ true → begins_with_blank (xs ++ rest) ≡ false
@@ -60,9 +51,8 @@ width_read : (width : ℕ) → is_width (Some width) ≡ true → width_in (deci
 width_read width fits =
     let top = leb-true width 65536 (and_parts (leb 1 width) (leb width 65536) fits).1 in
     let numeral = decimal_is_IsNumeral width (omega (arith, top)) in
-    let parts = digits_parts (decimal width) numeral.0.1 in
-    let count : is_count (decimal width) ≡ true = and_from _ _ (le-leb 1 _ (omega (arith, numeral.0.0))) parts.digits_are in
-    rw (word_alone (decimal width) numeral.0.0 parts.in_names, count, numeral.1, fits) refl
+    let count : is_count (decimal width) ≡ true = and_from _ _ (le-leb 1 _ (omega (arith, numeral.0.0))) (are_ascii_digits (decimal width) numeral.0.1) in
+    rw (word_alone (decimal width) numeral.0.0 (digits_in_names (decimal width) numeral.0.1), count, numeral.1, fits) refl
 
 -- ---- one end
 
@@ -228,9 +218,9 @@ wide_connection : (from_app from_port app port : List ℕ) (width : ℕ) → is_
 wide_connection from_app from_port app port width a b d e fits =
     let top = leb-true width 65536 (and_parts (leb 1 width) (leb width 65536) fits).1 in
     let digits : List ℕ = decimal width in
-    let parts = digits_parts digits (decimal_is_IsNumeral width (omega (arith, top))).0.1 in
+    let in_names = digits_in_names digits (decimal_is_IsNumeral width (omega (arith, top))).0.1 in
     let right : List ℕ = end_text app port ++ (space ∷ open_bracket ∷ digits ++ close_bracket ∷ []) in
-    let r = right_wide app port digits d e parts.in_names in
+    let r = right_wide app port digits d e in_names in
     let l = right_bare from_app from_port a b in
     let quotes : (list_any is_quote (end_text from_app from_port ++ space ∷ []) || list_any is_quote (space ∷ right)) ≡ false =
     or_from _ _ (any-append is_quote (end_text from_app from_port) (space ∷ []) l.quotes refl) r.quotes in
@@ -251,7 +241,7 @@ right_parts : (app port : List ℕ) (width : Option ℕ) → is_name app ≡ tru
 right_parts app port None a b fits = subst (λ (l : List ℕ). RightParts l) (sym (append-nil (end_text app port))) (right_bare app port a b)
 right_parts app port (Some width) a b fits =
     let top = leb-true width 65536 (and_parts (leb 1 width) (leb width 65536) fits).1 in
-    right_wide app port (decimal width) a b (digits_parts (decimal width) (decimal_is_IsNumeral width (omega (arith, top))).0.1).in_names
+    right_wide app port (decimal width) a b (digits_in_names (decimal width) (decimal_is_IsNumeral width (omega (arith, top))).0.1)
 
 between_read : (from_app from_port app port : List ℕ) (width : Option ℕ) → is_name from_app ≡ true → is_name from_port ≡ true → is_name app ≡ true → is_name port ≡ true → is_width width ≡ true
     → connection_between (end_text from_app from_port ++ space ∷ []) (space ∷ (end_text app port ++ width_text width)) ≡ Ok (link_between (from_app, from_port) (app, port) width)

@@ -11,7 +11,7 @@ use Rattle.config_text.specs.declared.text_kind.TextKind.{TextKind}
 use Rattle.config_text.specs.declared.text_kind.TextKind.TheVariants.{BadLine, BadName, BadWidth}
 use Rattle.config_text.specs.Bytes.{arrow, space, point, open_bracket, close_bracket, is_quote, is_point, is_open_bracket}
 use Rattle.config_text.specs.Parts.{◌>>=◌, trimmed, ends_in, without_last}
-use Rattle.config_text.specs.Counts.{is_count}
+use Rattle.music_base.specs.Counts.{is_count}
 
 -- what stands before the first arrow, and what stands after it
 abbrev pub split_at_arrow : List ℕ → Option (List ℕ × List ℕ)

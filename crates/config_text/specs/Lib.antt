@@ -1,6 +1,5 @@
 pub mod Bytes
 pub mod Lines
-pub mod Counts
 pub mod Parts
 pub mod Connections
 pub mod Contents

@@ -1,19 +1,19 @@
 //! The line of a connection.
 
-ghost use Rattle.std.specs.Prelude.{◌≡◌, ◌==◌, ◌<◌, ◌≤◌, ◌^◌, ◌&&◌, length, true, is_some, MatchOption};
-ghost use Rattle.std.specs.List.{list_all, list_any, starts_with};
+ghost use Rattle.std.specs.Prelude.{◌≡◌, ◌==◌, ◌&&◌, true, is_some};
+ghost use Rattle.std.specs.List.{list_any, starts_with};
 ghost use Rattle.std.specs.Option.{option_map};
-ghost use Rattle.std.specs.Char.{is_ascii_digit};
-ghost use Rattle.std.specs.Str.Parse.{digits_value};
 ghost use Rattle.music_base.specs.Names.{is_name};
 ghost use Rattle.config_text.specs.Bytes.{arrow, is_open_bracket};
 ghost use Rattle.config_text.specs.Connections.{split_at_arrow, end_in, width_in, connection_with_width, connection_without_width, connection_between, connection_in};
 ghost use Rattle.config_text.specs.Inner.{Gives, names_of, link_of};
 
 use crate::TextKind;
-use crate::counts::{is_count, value_up_to};
 use crate::parts::{after_first, before_first, ends_in_bracket, has, trimmed, without_last};
-use music_base::is_name;
+use music_base::{count_up_to, is_name};
+
+/// The greatest width.
+const MOST_WIDTH: u32 = 65_536;
 
 /// An end of a connection, lent from its line.
 #[derive(Clone, Copy)]
@@ -73,14 +73,11 @@ fn end_in(text: &[u8]) -> Result<End<'_>, TextKind>
     }
 }
 
+#[tactic(auto, unfolding(music_base::specs::Counts::count_up_to))]
 fn width_in(text: &[u8]) -> Result<u32, TextKind>
     ensures { Gives (λ n. n) result (width_in text.now) }
 {
-    let count = trimmed(text);
-    if !is_count(count) {
-        return Err(TextKind::BadWidth);
-    }
-    match value_up_to(65536, count) {
+    match count_up_to(MOST_WIDTH, trimmed(text)) {
         None | Some(0) => Err(TextKind::BadWidth),
         Some(width) => Ok(width),
     }

@@ -8,7 +8,6 @@
 mod config;
 mod connection;
 mod content;
-mod counts;
 mod laws;
 mod lines;
 mod link_text;

@@ -1,5 +1,5 @@
 -- Rounding down to a multiple.
-use Rattle.std.proofs.Common.{ℕ, ◌+◌, ◌<◌, arith, ℤ, pos, negsuc, ◌+ℤ◌}
+use Rattle.std.proofs.Common.{ℕ, ◌<◌, arith, ℤ, pos, negsuc, ◌+ℤ◌}
 use Rattle.std.specs.Prelude.{◌<ℤ◌, ◌≤ℤ◌}
 use Rattle.std.proofs.lemmas.Int.{ints}
 use Rattle.music_base.specs.Numbers.{floor_to}

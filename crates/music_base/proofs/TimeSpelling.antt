@@ -74,7 +74,7 @@ signed e is = elim is.sign [
 ]
 
 body_is_exponent : (e : ExponentParts) → IsExponent e → is_exponent (e.sign ++ e.digits) ≡ true
-body_is_exponent e is = rw (signed e is).0 (and_from _ _ (and_from _ _ (le-leb 1 (length e.digits) is.some) (le-leb (length e.digits) 3 is.few)) is.digits)
+body_is_exponent e is = rw (signed e is).0 (and_from _ _ (and_from _ _ (le-leb 1 (length e.digits) is.some) is.digits) (le-leb (length e.digits) 3 is.few))
 
 good_exponent : (bytes : List ℕ) (e : Option ExponentParts) → IfSome e IsExponent → exponent bytes ≡ exponent_body e → (e ≡ None → list_any is_exponent_mark bytes ≡ false) → has_good_exponent bytes ≡ true
 good_exponent bytes None is body none = rw (none refl) refl

@@ -1,28 +1,21 @@
 -- The canonical spelling of a time is read as that time.
-use Rattle.std.proofs.Common.{◌≡◌, ℕ, ◌+◌, ◌-◌, ◌*◌, ◌/◌, ◌%◌, ◌^◌, ◌<◌, ◌≤◌, true, leb, List, [], ◌∷◌, ◌++◌, length, Some, None, refl, sym, ap, ◌∙◌, inl, inr, arith, append-nil}
+use Rattle.std.proofs.Common.{◌≡◌, ℕ, ◌+◌, ◌-◌, ◌*◌, ◌/◌, ◌%◌, ◌^◌, ◌<◌, ◌≤◌, true, List, [], ◌∷◌, ◌++◌, length, Some, None, refl, sym, ap, ◌∙◌, inl, inr, arith, append-nil}
 use Rattle.std.specs.Prelude.{Result, Ok, Err, IfOk}
 use Rattle.std.specs.Char.{is_ascii_digit}
 use Rattle.std.specs.Fmt.{decimal}
 use Rattle.std.specs.List.{list_all}
-use Rattle.std.specs.Str.Parse.{digits_value_after, digits_value, AllDigits}
+use Rattle.std.specs.Str.Parse.{digits_value_after, digits_value}
 use Rattle.std.proofs.Math.Nat.{mul_assoc}
 use Rattle.std.proofs.lemmas.Nat.{div-add-mod'}
-use Rattle.std.proofs.lemmas.Bool.{and_from, le-leb, eq-eqb, ne_eqb, cases_eq}
+use Rattle.std.proofs.lemmas.Bool.{eq-eqb, ne_eqb, cases_eq}
 use Rattle.std.proofs.lemmas.Fmt.{decimal_is_IsNumeral, length-decimal-le}
-use Rattle.std.proofs.lemmas.Str.Parse.{digit_from_value}
 use Rattle.std.proofs.lemmas.List.{length-append}
 use Rattle.music_base.specs.Times.{time_value, greatest_time, canonical_time, nanos_text, lowest_digits}
 use Rattle.music_base.specs.TimeTexts.{SpellsTime}
-use Rattle.music_base.proofs.DigitValues.{digits_value_after-append}
+use Rattle.music_base.proofs.DigitValues.{digits_value_after-append, are_ascii_digits}
 use Rattle.music_base.proofs.Fraction.{trimmed, lowest_are_digits, length-lowest_digits, digits_value_after-lowest_digits}
 use Rattle.music_base.proofs.Scaling.{split_ten}
 use Rattle.music_base.proofs.TimeLaws.{valued}
-
-decimal_are_digits : (ds : List ℕ) → AllDigits 10 ds → list_all is_ascii_digit ds ≡ true
-decimal_are_digits [] digits = refl
-decimal_are_digits (c ∷ cs) digits =
-    let r = digit_from_value c digits.0 in
-    and_from (is_ascii_digit c) _ (and_from (leb 48 c) (leb c 57) (le-leb 48 c r.0) (le-leb c 57 r.1)) (decimal_are_digits cs digits.1)
 
 -- what is known of the digits of whole seconds
 record IsWritten (s : ℕ) : Type 0 where
@@ -35,7 +28,7 @@ written : (s : ℕ) → s < 10 ^ 7 → IsWritten s
 written s few =
     let numeral = decimal_is_IsNumeral s (omega (arith, few)) in
     record {
-      digits = decimal_are_digits (decimal s) numeral.0.1;
+      digits = are_ascii_digits (decimal s) numeral.0.1;
       some = numeral.0.0;
       short = length-decimal-le 7 s (omega arith) few (omega (arith, few));
       value = numeral.1;

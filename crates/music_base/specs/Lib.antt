@@ -1,5 +1,6 @@
 pub mod Causes
 pub mod Clocks
+pub mod Counts
 pub mod InMemory
 pub mod Names
 pub mod Numbers

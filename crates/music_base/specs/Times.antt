@@ -4,6 +4,7 @@ use Rattle.std.specs.List.{before_first, after_first, list_any, list_all, suffix
 use Rattle.std.specs.Fmt.{decimal}
 use Rattle.std.specs.Char.{is_ascii_digit}
 use Rattle.std.specs.Str.Parse.{digits_value, starts_with_minus, without_leading_sign}
+use Rattle.music_base.specs.Counts.{is_short_count}
 use Rattle.music_base.specs.declared.times.TimeFault.{TimeFault}
 use Rattle.music_base.specs.declared.times.TimeFault.TheVariants.{Spelling, NotWhole, Range}
 
@@ -62,8 +63,7 @@ fraction text = after_first is_point (mantissa text)
 
 -- an optional sign, and one to three digits
 abbrev pub is_exponent : List ℕ → Bool
-is_exponent bytes = let digits = without_leading_sign bytes in
-    nat_le 1 (length digits) && nat_le (length digits) 3 && list_all is_ascii_digit digits
+is_exponent bytes = is_short_count 3 (without_leading_sign bytes)
 
 -- where there is a mark, an exponent stands behind it
 abbrev pub has_good_exponent : List ℕ → Bool

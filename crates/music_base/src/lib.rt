@@ -1,11 +1,12 @@
-//! What every crate of the coordinator stands on: numbers with names, names and words, what ports carry, times as
-//! text, and the outside that bytes come from and go to.
+//! What every crate of the coordinator stands on: numbers with names, names and words, what ports carry, decimal digits
+//! and times as text, and the outside that bytes come from and go to.
 #![tactic(auto)]
 
 mod arithmetic;
 mod bytes;
 mod clocks;
 mod copying;
+mod counts;
 mod errors;
 mod gate;
 mod item;
@@ -30,6 +31,7 @@ pub use arithmetic::{floor_to, gcd};
 pub use bytes::byte_place;
 pub use clocks::{due, steps_of};
 pub use copying::{TryCopy, copy_all};
+pub use counts::{count_up_to, is_negative, is_short_count, number_behind, without_sign};
 pub use errors::{Failed, NoMemory};
 pub use gate::{FreeGate, Gate};
 pub use item::{Block, Event, Item, Message};

@@ -1,13 +1,16 @@
 //! The parts of a time text, where they stand in it.
-ghost use Rattle.std.specs.Prelude.{◌≡◌, ℕ, ◌+◌, ◌*◌, ◌^◌, ◌<◌, ◌≤◌, IsTrue, true, drop, length};
-ghost use Rattle.std.specs.List.{position, position_or_len, list_all};
-ghost use Rattle.std.specs.Char.{is_ascii_digit};
-ghost use Rattle.std.specs.Str.Parse.{digits_value_after, starts_with_minus, without_leading_sign};
+ghost use Rattle.std.specs.Prelude.{◌≡◌, ◌+◌, ◌^◌, ◌<◌, ◌≤◌, true, drop, length};
+ghost use Rattle.std.specs.List.{position, position_or_len};
 ghost use Rattle.music_base.specs.Times.{is_time_text, is_exponent_mark, is_point, is_exponent, has_good_exponent, fraction, exponent_size, digits_of, raised, lowered};
 ghost use Rattle.music_base.specs.TimeCuts.{IsCut};
 
+use crate::counts::{are_digits, is_negative, is_short_count, number_behind, without_sign};
+
 /// How many bytes a time text has at most.
 const LONGEST: usize = 30;
+
+/// How many digits an exponent has at most.
+const MOST_EXPONENT_DIGITS: usize = 3;
 
 fn is_exponent_mark(byte: u8) -> bool
     ensures { result ≡ is_exponent_mark byte }
@@ -87,37 +90,11 @@ pub fn cut(text: &[u8]) -> TimeCut<'_>
     }
 }
 
-fn are_digits(bytes: &[u8]) -> bool
-    ensures { result ≡ list_all is_ascii_digit bytes.now }
-{
-    let mut digits = true;
-    for byte in bytes {
-        digits &= byte.is_ascii_digit();
-    }
-    digits
-}
-
-fn without_sign(bytes: &[u8]) -> &[u8]
-    ensures { result.now ≡ without_leading_sign bytes.now }
-{
-    match bytes {
-        [b'+' | b'-', digits @ ..] => digits,
-        _ => bytes,
-    }
-}
-
-fn is_negative(bytes: &[u8]) -> bool
-    ensures { result ≡ starts_with_minus bytes.now }
-{
-    matches!(bytes, [b'-', ..])
-}
-
 /// An optional sign, and one to three digits.
 fn is_exponent(bytes: &[u8]) -> bool
     ensures { result ≡ is_exponent bytes.now }
 {
-    let digits = without_sign(bytes);
-    1 <= digits.len() && digits.len() <= 3 && are_digits(digits)
+    is_short_count(MOST_EXPONENT_DIGITS, without_sign(bytes))
 }
 
 /// Where there is a mark, an exponent stands behind it.
@@ -138,20 +115,6 @@ pub fn is_time_text(cut: TimeCut<'_>) -> bool
         && are_digits(cut.fraction)
         && 0 < cut.whole.len() + cut.fraction.len()
         && has_good_exponent(cut)
-}
-
-/// The number of these digits behind those of `number`.
-fn number_behind(number: u128, digits: &[u8]) -> u128
-    requires room { (number + 1) * 10 ^ length digits.now ≤ 10 ^ 30 }
-    requires digits { IsTrue (list_all is_ascii_digit digits.now) }
-    ensures value { result ≡ digits_value_after 10 number digits.now }
-    ensures below { result < (number + 1) * 10 ^ length digits.now }
-{
-    let mut value = number;
-    for digit in digits {
-        value = value * 10 + u128::from(*digit - b'0');
-    }
-    value
 }
 
 /// How far the exponent moves the point, to either side.

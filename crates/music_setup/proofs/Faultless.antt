@@ -12,7 +12,7 @@ use Rattle.music_base.specs.Times.{greatest_time, time_value}
 use Rattle.music_base.specs.declared.times.TimeFault.{TimeFault}
 use Rattle.music_base.proofs.Lists.{All-push}
 use Rattle.music_base.proofs.TimeRange.{time_value-is}
-use Rattle.text_words.specs.Counts.{count_up_to}
+use Rattle.music_base.specs.Counts.{count_up_to}
 use Rattle.text_words.specs.InTurn.{some_or}
 use Rattle.text_words.proofs.Options.{IfSome-when, count_up_to-is}
 use Rattle.text_words.proofs.Results.{IfOk-bind, IfOk-faults_as, IfOk-from, IfOk-given, IfOk-of, IfOk-some_or, Ok-faults_as}

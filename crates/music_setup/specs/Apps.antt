@@ -4,7 +4,7 @@ use Rattle.std.specs.Int.{is_in_range}
 use Rattle.music_base.specs.Clocks.{steps_until}
 use Rattle.music_base.specs.Times.{time_value}
 use Rattle.music_base.specs.declared.times.TimeFault.{TimeFault}
-use Rattle.text_words.specs.Counts.{count_up_to}
+use Rattle.music_base.specs.Counts.{count_up_to}
 use Rattle.text_words.specs.Options.{◌when◌}
 use Rattle.text_words.specs.InTurn.{◌>>=◌, some_or, faults_as, in_turn}
 use Rattle.config_text.specs.Lookup.{looked_up}

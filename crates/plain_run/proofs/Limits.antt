@@ -4,7 +4,7 @@ use Rattle.std.specs.Prelude.{Option, Some, None, IfSome, Ok, IfOk, codes, bytes
 use Rattle.std.specs.Str.{byte}
 use Rattle.std.specs.Option.{ok_or}
 use Rattle.std.proofs.lemmas.Bool.{and_parts, leb-true, ltb-true}
-use Rattle.text_words.specs.Counts.{count_up_to}
+use Rattle.music_base.specs.Counts.{count_up_to}
 use Rattle.text_words.proofs.Options.{IfSome-bind, IfSome-after, IfSome-when, count_up_to-is}
 use Rattle.text_words.proofs.Results.{IfOk-bind, IfOk-given}
 use Rattle.text_words.specs.InTurn.{◌>>=◌}

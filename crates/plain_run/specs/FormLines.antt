@@ -2,7 +2,7 @@
 use Rattle.std.specs.Prelude.{ℕ, ◌+◌, ◌*◌, ◌/◌, Bool, ◌&&◌, not, nat_le, nat_lt, nat_eq, List, length, Option, Some, bytes_eq, codes}
 use Rattle.std.specs.Str.{byte}
 use Rattle.music_base.specs.Clocks.{steps_until}
-use Rattle.text_words.specs.Counts.{count_up_to}
+use Rattle.music_base.specs.Counts.{count_up_to}
 use Rattle.text_words.specs.Options.{◌>>=◌, ◌when◌}
 use Rattle.plain_run.specs.FormWords.{cut_at, behind, time_in, name_before, time_behind}
 

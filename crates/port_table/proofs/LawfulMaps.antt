@@ -15,7 +15,7 @@ use Rattle.index_maps.specs.declared.map.PortMap.{PortMap}
 use Rattle.index_maps.specs.declared.map.PortMap.TheVariants.{Each, Split}
 use Rattle.index_maps.proofs.Repeats.{indices_differ}
 use Rattle.index_maps.proofs.Splits.{split_at_rises, split_at_ends}
-use Rattle.text_words.specs.Counts.{count_up_to}
+use Rattle.music_base.specs.Counts.{count_up_to}
 use Rattle.text_words.specs.Options.{each, first_some}
 use Rattle.text_words.specs.Parts.{is_byte, parts}
 use Rattle.text_words.proofs.Options.{IfSome-after, IfSome-bind, IfSome-each, IfSome-if, IfSome-map, IfSome-or, IfSome-when, count_up_to-is, length-each}

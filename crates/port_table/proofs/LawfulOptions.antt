@@ -5,7 +5,7 @@ use Rattle.std.specs.Int.{IsInRange}
 use Rattle.std.proofs.lemmas.Bool.{leb-true}
 use Rattle.music_base.specs.Times.{greatest_time}
 use Rattle.music_base.proofs.TimeRange.{result_ok-time_value}
-use Rattle.text_words.specs.Counts.{count_up_to}
+use Rattle.music_base.specs.Counts.{count_up_to}
 use Rattle.text_words.proofs.Options.{IfSome-bind, IfSome-if, IfSome-when, count_up_to-is}
 use Rattle.scene_model.specs.Limits.{most_buffered}
 use Rattle.scene_model.specs.declared.port.Direction.{Direction}

@@ -5,7 +5,7 @@ use Rattle.std.specs.Option.{option_or}
 use Rattle.music_base.specs.Times.{plus}
 use Rattle.text_words.specs.Options.{◌>>=◌, ◌when◌, each, first_some}
 use Rattle.text_words.specs.Parts.{is_byte, parts}
-use Rattle.text_words.specs.Counts.{count_up_to}
+use Rattle.music_base.specs.Counts.{count_up_to}
 use Rattle.index_maps.specs.Indices.{Extent}
 use Rattle.index_maps.specs.Maps.{no_indices}
 use Rattle.index_maps.specs.Repeats.{first_repeat}

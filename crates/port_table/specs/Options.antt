@@ -3,7 +3,7 @@ use Rattle.std.specs.Prelude.{ℕ, Bool, true, false, ◌&&◌, ◌||◌, nat_le
 use Rattle.std.specs.Result.{result_ok}
 use Rattle.music_base.specs.Times.{time_value}
 use Rattle.text_words.specs.Options.{◌>>=◌, ◌when◌}
-use Rattle.text_words.specs.Counts.{count_up_to}
+use Rattle.music_base.specs.Counts.{count_up_to}
 use Rattle.scene_model.specs.Limits.{most_buffered}
 use Rattle.scene_model.specs.declared.port.Direction.{Direction}
 use Rattle.scene_model.specs.declared.port.Direction.TheVariants.{Input}

@@ -5,7 +5,7 @@ use Rattle.std.specs.List.{AllByRecursion}
 use Rattle.std.specs.Option.{option_or}
 use Rattle.std.specs.Str.Parse.{digits_value}
 use Rattle.std.proofs.lemmas.Bool.{and_parts}
-use Rattle.text_words.specs.Counts.{count_up_to, is_count}
+use Rattle.music_base.specs.Counts.{count_up_to, is_count}
 use Rattle.text_words.specs.Options.{◌>>=◌, ◌when◌, each}
 
 -- a step and what goes on from it

@@ -1,4 +1,4 @@
-pub mod Counts
+pub mod Numbers
 pub mod InTurn
 pub mod Options
 pub mod Parts

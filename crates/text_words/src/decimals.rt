@@ -4,10 +4,11 @@ ghost use Rattle.std.specs.List.{list_all, list_any};
 ghost use Rattle.std.specs.Char.{is_ascii_digit};
 ghost use Rattle.std.specs.Str.Parse.{digits_value};
 ghost use Rattle.music_base.specs.Times.{is_point};
-ghost use Rattle.text_words.specs.Counts.{is_digits, is_decimal, has_good_fraction, whole, fraction, worth, millionths, without_minus, fixed, most_whole_digits, most_fraction_digits};
+ghost use Rattle.text_words.specs.Numbers.{is_decimal, has_good_fraction, whole, fraction, worth, millionths, without_minus, fixed, most_whole_digits, most_fraction_digits};
 
-use crate::counts::{is_count, is_negative, with_sign};
 use crate::cut::around;
+use crate::signed::with_sign;
+use music_base::{is_negative, is_short_count, number_behind};
 
 /// How many digits stand at most before the point.
 const MOST_WHOLE_DIGITS: usize = 12;
@@ -16,12 +17,6 @@ const MOST_WHOLE_DIGITS: usize = 12;
 const MOST_FRACTION_DIGITS: usize = 6;
 
 const MILLION: u64 = 1_000_000;
-
-fn is_digits(most: usize, text: &[u8]) -> bool
-    ensures { result ≡ is_digits most text.now }
-{
-    is_count(text) && text.len() <= most
-}
 
 fn has_point(text: &[u8]) -> bool
     ensures { result ≡ list_any is_point text.now }
@@ -47,13 +42,13 @@ fn fraction(text: &[u8]) -> &[u8]
 fn has_good_fraction(text: &[u8]) -> bool
     ensures { result ≡ has_good_fraction text.now }
 {
-    !has_point(text) || is_digits(MOST_FRACTION_DIGITS, fraction(text))
+    !has_point(text) || is_short_count(MOST_FRACTION_DIGITS, fraction(text))
 }
 
 fn is_decimal(text: &[u8]) -> bool
     ensures { result ≡ is_decimal text.now }
 {
-    is_digits(MOST_WHOLE_DIGITS, whole(text)) && has_good_fraction(text)
+    is_short_count(MOST_WHOLE_DIGITS, whole(text)) && has_good_fraction(text)
 }
 
 /// The number that at most twelve digits write.
@@ -63,11 +58,7 @@ fn number_of(digits: &[u8]) -> u64
     ensures value { result ≡ digits_value 10 digits.now }
     ensures small { result < 10 ^ most_whole_digits }
 {
-    let mut number = 0u64;
-    for digit in digits {
-        number = number * 10 + u64::from(*digit - b'0');
-    }
-    number
+    number_behind(0, digits) as u64
 }
 
 /// What digits after a point are worth, in millionths.
@@ -82,7 +73,7 @@ fn worth(digits: &[u8]) -> u64
 }
 
 /// A decimal number without a sign, in millionths.
-#[tactic(auto, unfolding(crate::specs::Counts::millionths), using(crate::proofs::Digits::whole_is_few, crate::proofs::Digits::fraction_is_few))]
+#[tactic(auto, unfolding(crate::specs::Numbers::millionths), using(crate::proofs::Digits::whole_is_few, crate::proofs::Digits::fraction_is_few))]
 fn millionths(text: &[u8]) -> Option<u64>
     ensures value { result ≡ millionths text.now }
     ensures small { IfSome result (λ number. number < 10 ^ 18) }
@@ -104,7 +95,7 @@ fn without_minus(text: &[u8]) -> &[u8]
 
 /// A FIXED, in millionths: an optional `-`, one to twelve digits, and optionally a point and one to six digits. `None`
 /// for any other text.
-#[tactic(auto, unfolding(crate::specs::Counts::fixed))]
+#[tactic(auto, unfolding(crate::specs::Numbers::fixed))]
 pub fn fixed(text: &[u8]) -> Option<i64>
     ensures number { result ≡ fixed text.now }
     ensures least { IfSome result (λ number. neg_ℤ (pos (10 ^ 18)) ≤ℤ number) }

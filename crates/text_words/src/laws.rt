@@ -1,6 +1,7 @@
 ghost use Rattle.std.specs.Prelude.{◌≡◌, ℕ, [], ◌∷◌, ◌++◌, List, Some, None, Result, Ok, Err, pos, neg_ℤ, codes};
 ghost use Rattle.text_words.specs.Words.{words, declarations, tab};
-ghost use Rattle.text_words.specs.Counts.{count_up_to, signed_within, fixed};
+ghost use Rattle.music_base.specs.Counts.{count_up_to};
+ghost use Rattle.text_words.specs.Numbers.{signed_within, fixed};
 ghost use Rattle.text_words.specs.InTurn.{in_turn, IsFirst};
 
 /// Reading in turn fails with a fault exactly where some place is the first faulty one, with this fault.

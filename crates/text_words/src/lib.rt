@@ -1,14 +1,15 @@
 //! The value of a setting as text: pieces between `;`, words between blanks, and the small numbers that words spell.
 #![tactic(auto)]
 
-mod counts;
 mod cut;
 mod decimals;
 mod laws;
 mod pieces;
+mod signed;
 
-pub use counts::{count_up_to, signed_within};
 pub use cut::{around, cut_at, is_key};
 pub use decimals::fixed;
 pub use laws::{first_faults, small_texts};
+pub use music_base::count_up_to;
 pub use pieces::{split_declaration, split_word};
+pub use signed::signed_within;

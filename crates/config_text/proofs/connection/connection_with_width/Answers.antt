@@ -2,7 +2,7 @@ use Rattle.std.proofs.Common.{◌≡◌, ◌<◌, length, false, refl, sym}
 use Rattle.std.proofs.lemmas.Bool.{lt-ltb}
 use Rattle.config_text.specs.Bytes.{close_bracket, is_open_bracket}
 use Rattle.config_text.specs.Parts.{ends_in}
-use Rattle.config_text.proofs.DigitCounts.{some_from_any}
+use Rattle.config_text.proofs.Firsts.{some_from_any}
 use Rattle.config_text.proofs.Ends.{second_fails}
 use Rattle.config_text.proofs.connection.connection_with_width.Goals as goal
 

@@ -3,7 +3,8 @@ use Rattle.std.proofs.Common.{refl}
 use Rattle.music_base.specs.Clocks.{steps_until}
 use Rattle.music_base.specs.Times.{scaled, time_value}
 use Rattle.text_words.specs.Words.{words, declarations}
-use Rattle.text_words.specs.Counts.{count_up_to, signed_within, millionths, fixed}
+use Rattle.music_base.specs.Counts.{count_up_to}
+use Rattle.text_words.specs.Numbers.{signed_within, millionths, fixed}
 use Rattle.config_text.specs.Lookup.{looked_up}
 use Rattle.index_maps.specs.Intervals.{ranks_mapping, first_shared}
 use Rattle.index_maps.specs.Repeats.{first_repeat}

@@ -2,7 +2,7 @@
 use Rattle.std.proofs.Common.{refl}
 use Rattle.music_base.specs.Times.{scaled, time_value}
 use Rattle.text_words.specs.Words.{words, declarations}
-use Rattle.text_words.specs.Counts.{count_up_to}
+use Rattle.music_base.specs.Counts.{count_up_to}
 use Rattle.index_maps.specs.Intervals.{ranks_mapping, first_shared}
 use Rattle.index_maps.specs.Repeats.{first_repeat}
 use Rattle.port_table.specs.MapWords.{span_in, index_list, rank_map, rank_maps, split_map, map_in}

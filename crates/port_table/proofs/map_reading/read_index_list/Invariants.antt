@@ -4,7 +4,7 @@ use Rattle.std.specs.List.{list_all}
 use Rattle.std.specs.Option.{option_copied, option_map_or}
 use Rattle.text_words.specs.Parts.{parts_left}
 use Rattle.text_words.specs.Options.{each}
-use Rattle.text_words.specs.Counts.{count_up_to}
+use Rattle.music_base.specs.Counts.{count_up_to}
 use Rattle.index_maps.specs.declared.span.TheConstants.{INDEX_LIMIT}
 use Rattle.scene_model.specs.Limits.{greatest_index}
 use Rattle.port_table.specs.MapWords.{index_list, comma}

@@ -3,7 +3,7 @@ use Rattle.std.specs.Prelude.{is_some}
 use Rattle.std.specs.Option.{option_copied, option_map_or}
 use Rattle.text_words.specs.Parts.{parts_left}
 use Rattle.text_words.specs.Options.{each}
-use Rattle.text_words.specs.Counts.{count_up_to}
+use Rattle.music_base.specs.Counts.{count_up_to}
 use Rattle.scene_model.specs.Limits.{greatest_index}
 use Rattle.port_table.specs.MapWords.{index_list, comma}
 use Rattle.port_table.proofs.map_words.is_index_list.Given as goal

@@ -1,7 +1,8 @@
 -- Each side computes.
 use Rattle.std.proofs.Common.{refl}
 use Rattle.text_words.specs.Words.{words, declarations}
-use Rattle.text_words.specs.Counts.{count_up_to, signed_within, millionths, fixed}
+use Rattle.music_base.specs.Counts.{count_up_to}
+use Rattle.text_words.specs.Numbers.{signed_within, millionths, fixed}
 use Rattle.text_words.proofs.laws.small_texts.Goals as goal
 
 pub returns : goal.returns

@@ -1,19 +1,9 @@
--- The small numbers that words spell.
-use Rattle.std.specs.Prelude.{ℕ, ◌+◌, ◌-◌, ◌*◌, ◌^◌, Bool, true, ◌&&◌, nat_le, if◌then◌else◌, List, length, drop, Option, Some, None, option_map, ℤ, pos, neg_ℤ}
-use Rattle.std.specs.List.{list_all, list_any, before_first, after_first}
-use Rattle.std.specs.Char.{is_ascii_digit}
+-- The small numbers that words spell, besides a COUNT.
+use Rattle.std.specs.Prelude.{ℕ, ◌+◌, ◌-◌, ◌*◌, ◌^◌, Bool, true, ◌&&◌, if◌then◌else◌, List, length, drop, Option, Some, None, option_map, ℤ, pos, neg_ℤ}
+use Rattle.std.specs.List.{list_any, before_first, after_first}
 use Rattle.std.specs.Str.Parse.{digits_value, starts_with_minus, without_leading_sign}
+use Rattle.music_base.specs.Counts.{is_short_count, count_up_to}
 use Rattle.music_base.specs.Times.{is_point}
-
--- ---- COUNT
-
--- one decimal digit or more; leading zeros are accepted
-abbrev pub is_count : List ℕ → Bool
-is_count text = nat_le 1 (length text) && list_all is_ascii_digit text
-
--- a COUNT of at most so much
-unfoldable pub count_up_to : ℕ → List ℕ → Option ℕ
-count_up_to most text = if is_count text && nat_le (digits_value 10 text) most then Some (digits_value 10 text) else None
 
 -- ---- SIGNED
 
@@ -33,10 +23,6 @@ most_whole_digits = 12
 abbrev pub most_fraction_digits : ℕ
 most_fraction_digits = 6
 
--- one to so many digits
-abbrev pub is_digits : ℕ → List ℕ → Bool
-is_digits most text = is_count text && nat_le (length text) most
-
 -- what stands before the point, and what stands after it, nothing where there is no point
 abbrev pub whole : List ℕ → List ℕ
 whole text = before_first is_point text
@@ -46,11 +32,11 @@ fraction text = after_first is_point text
 
 -- where there is a point, digits stand after it
 abbrev pub has_good_fraction : List ℕ → Bool
-has_good_fraction text = if list_any is_point text then is_digits most_fraction_digits (fraction text) else true
+has_good_fraction text = if list_any is_point text then is_short_count most_fraction_digits (fraction text) else true
 
 -- digits, and optionally a point and digits
 abbrev pub is_decimal : List ℕ → Bool
-is_decimal text = is_digits most_whole_digits (whole text) && has_good_fraction text
+is_decimal text = is_short_count most_whole_digits (whole text) && has_good_fraction text
 
 -- what digits after the point are worth, in millionths
 abbrev pub worth : List ℕ → ℕ
