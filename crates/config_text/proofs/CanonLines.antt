@@ -14,7 +14,8 @@ use Rattle.config_text.specs.Pairs.{SettingList, SectionList, has_own_keys}
 use Rattle.config_text.specs.Lines.{raw_lines}
 use Rattle.config_text.specs.Text.{Line, lines}
 use Rattle.config_text.specs.Lawful.{is_lawful_setting, is_lawful_section, are_settings}
-use Rattle.config_text.specs.Canon.{setting_line, section_lines, canon_lines, ended, canon, is_lawful_config}
+use Rattle.music_base.specs.Lines.{ended}
+use Rattle.config_text.specs.Canon.{setting_line, section_lines, canon_lines, canon, is_lawful_config}
 use Rattle.config_text.proofs.CanonContents.{setting_of, section_contents, contents, oks}
 use Rattle.config_text.proofs.ConfigParts.{list_parts}
 use Rattle.config_text.proofs.WrittenSetting.{setting_alone, setting_read, header_alone, header_read}

@@ -7,7 +7,8 @@ use Rattle.std.proofs.lemmas.List.Concat.{flat_map-append}
 use Rattle.config_text.specs.declared.link_text.LinkText.{LinkText}
 use Rattle.config_text.specs.Connections.{link_line}
 use Rattle.config_text.specs.Pairs.{SettingList, SectionList}
-use Rattle.config_text.specs.Canon.{ended, setting_line, section_lines}
+use Rattle.music_base.specs.Lines.{ended}
+use Rattle.config_text.specs.Canon.{setting_line, section_lines}
 use Rattle.config_text.proofs.Entries.{taken}
 
 pub setting_more : (out base : List ℕ) (ps : SettingList) (i : ℕ) (p : List ℕ × List ℕ) → slice_get ps i ≡ Some p → out ≡ base ++ flat_map ended (map setting_line (take i ps))

@@ -3,7 +3,7 @@ use Rattle.std.specs.Prelude.{ℕ, Bool, ◌&&◌, ◌||◌, if◌then◌else◌
 use Rattle.std.specs.List.{flat_map, list_any}
 use Rattle.config_text.specs.declared.config.Config.{Config}
 use Rattle.config_text.specs.Bytes.{quote, equals, open_bracket, close_bracket, is_comment_sign}
-use Rattle.config_text.specs.Lines.{line_feed}
+use Rattle.music_base.specs.Lines.{ended}
 use Rattle.config_text.specs.Parts.{begins_with_blank, ends_with_blank}
 use Rattle.config_text.specs.Connections.{link_line}
 use Rattle.config_text.specs.Pairs.{SettingList}
@@ -33,10 +33,7 @@ section_lines section = header_line section.0 ∷ map setting_line section.1
 abbrev pub canon_lines : Config → List (List ℕ)
 canon_lines config = map setting_line config.defaults ++ flat_map section_lines config.sections ++ map link_line config.links
 
--- each line ends with LF
-abbrev pub ended : List ℕ → List ℕ
-ended line = line ++ line_feed ∷ []
-
+-- each line with its end
 unfoldable pub canon : Config → List ℕ
 canon config = flat_map ended (canon_lines config)
 

@@ -2,7 +2,7 @@
 
 ghost use Rattle.std.specs.Prelude.{◌≡◌, ◌∷◌, ◌<◌, length, IfSome};
 ghost use Rattle.std.specs.List.{position};
-ghost use Rattle.config_text.specs.Lines.{is_line_feed, raw_lines};
+ghost use Rattle.config_text.specs.Lines.{is_line_end, raw_lines};
 
 use music_base::byte_place;
 
@@ -23,7 +23,7 @@ pub fn split_line(bytes: &[u8]) -> (&[u8], &[u8])
 }
 
 fn line_end(bytes: &[u8]) -> Option<usize>
-    ensures place { result ≡ position is_line_feed bytes.now }
+    ensures place { result ≡ position is_line_end bytes.now }
     ensures within { IfSome result (λ end. end < length bytes.now) }
 {
     byte_place(b'\n', bytes)

@@ -3,7 +3,8 @@
 ghost use Rattle.std.specs.Prelude.{◌≡◌, ◌++◌, ◌≤◌, length, map, true, IfOk, OnOk};
 ghost use Rattle.std.specs.List.{flat_map};
 ghost use Rattle.config_text.specs.Connections.{end_text, width_text, link_line};
-ghost use Rattle.config_text.specs.Canon.{needs_quotes, raw_value, setting_line, header_line, section_lines, ended, canon, is_lawful_config};
+ghost use Rattle.music_base.specs.Lines.{ended};
+ghost use Rattle.config_text.specs.Canon.{needs_quotes, raw_value, setting_line, header_line, section_lines, canon, is_lawful_config};
 ghost use Rattle.config_text.specs.Lawful.{are_settings, are_sections};
 ghost use Rattle.config_text.specs.Lines.{longest_text};
 ghost use Rattle.config_text.specs.Text.{Spells};

@@ -3,7 +3,7 @@ use Rattle.std.specs.Prelude.{ℕ, ◌+◌, ◌<◌, List, [], ◌∷◌, ◌++�
 use Rattle.std.specs.Fmt.{decimal, signed_decimal}
 use Rattle.std.specs.List.{flat_map}
 use Rattle.scene_model.specs.Cover.{allowances, burdens}
-use Rattle.scene_model.specs.Logs.{line_end}
+use Rattle.music_base.specs.Lines.{ended}
 use Rattle.scene_model.specs.Scenes.{app_at}
 use Rattle.scene_model.specs.declared.scene.Scene.{Scene}
 use Rattle.scene_model.specs.declared.wait.Wait.{Wait}
@@ -44,10 +44,6 @@ wait_line scene w =
 -- the two sums
 unfoldable pub sums_line : List Wait → List ℕ
 sums_line cycle = codes "allowances " ++ signed_decimal (allowances cycle) ++ codes ", burdens " ++ signed_decimal (burdens cycle)
-
--- a line with its end
-abbrev pub ended : List ℕ → List ℕ
-ended line = line ++ line_end ∷ []
 
 -- a head, a line for each wait, and the sums
 unfoldable pub cycle_text : Scene → List Wait → List ℕ

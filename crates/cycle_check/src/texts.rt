@@ -4,7 +4,8 @@ ghost use Rattle.std.specs.Fmt.{decimal, signed_decimal};
 ghost use Rattle.std.specs.List.{flat_map};
 ghost use Rattle.scene_model.specs.Cover.{IsBounded, most_waits};
 ghost use Rattle.scene_model.specs.Scenes.{app_at};
-ghost use Rattle.cycle_check.specs.CycleTexts.{IsBetween, cycle_text, ended, ends_text, kind_word, link_text, sums_line, wait_line};
+ghost use Rattle.music_base.specs.Lines.{ended};
+ghost use Rattle.cycle_check.specs.CycleTexts.{IsBetween, cycle_text, ends_text, kind_word, link_text, sums_line, wait_line};
 
 use crate::Cycle;
 use crate::sums::{allowances, burdens};

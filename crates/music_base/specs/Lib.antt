@@ -2,6 +2,7 @@ pub mod Causes
 pub mod Clocks
 pub mod Counts
 pub mod InMemory
+pub mod Lines
 pub mod Names
 pub mod Numbers
 pub mod Outside

@@ -7,7 +7,8 @@ use Rattle.config_text.specs.declared.config.Config.{Config}
 use Rattle.plain_run.specs.declared.form.FirstForm.{FirstForm}
 use Rattle.config_text.specs.declared.text_kind.TextKind.{TextKind}
 use Rattle.scene_model.specs.Cover.{IsTold}
-use Rattle.scene_model.specs.Logs.{line_end, log_of}
+use Rattle.music_base.specs.Lines.{ended}
+use Rattle.scene_model.specs.Logs.{log_of}
 use Rattle.scene_model.specs.Orders.{IsLive}
 use Rattle.scene_model.specs.Waits.{AreLimits, IsAccepted, stated_limits, waits}
 use Rattle.scene_model.specs.declared.scene.Scene.{Scene}
@@ -60,14 +61,14 @@ outcomes_of (Some Run) = Done ∷ TextFault ∷ ReadFault ∷ WriteFault ∷ NoM
 -- ---- texts
 
 unfoldable pub usage_text : List ℕ
-usage_text = codes "usage: music check | plan | order | run [--workers N] | load --number N [--workers N]" ++ line_end ∷ []
+usage_text = ended (codes "usage: music check | plan | order | run [--workers N] | load --number N [--workers N]")
 
 unfoldable pub read_fault_text : List ℕ
-read_fault_text = codes "read fault" ++ line_end ∷ []
+read_fault_text = ended (codes "read fault")
 
 -- how many applications and connections a scene has
 unfoldable pub ok_text : Scene → List ℕ
-ok_text scene = codes "ok: " ++ decimal (length scene.apps) ++ codes " applications, " ++ decimal (length scene.links) ++ codes " connections" ++ line_end ∷ []
+ok_text scene = ended (codes "ok: " ++ decimal (length scene.apps) ++ codes " applications, " ++ decimal (length scene.links) ++ codes " connections")
 
 -- ---- answers
 

@@ -4,7 +4,7 @@ use Rattle.std.specs.Fmt.{decimal}
 use Rattle.std.specs.List.{flat_map}
 use Rattle.std.specs.Option.{is_some}
 use Rattle.music_base.specs.Numbers.{below}
-use Rattle.scene_model.specs.Logs.{line_end}
+use Rattle.music_base.specs.Lines.{ended}
 use Rattle.scene_model.specs.Scenes.{app_at, input_of, output_of, receiver, sender}
 use Rattle.scene_model.specs.Waits.{stated}
 use Rattle.scene_model.specs.declared.port.PortDecl.{PortDecl}
@@ -30,10 +30,10 @@ how_text true = codes "stated"
 how_text false = codes "chosen"
 
 unfoldable pub plan_line : Scene → ℕ → ℕ → Bool → List ℕ
-plan_line scene c limit is_stated = ends_text scene c ++ codes "," ++ decimal limit ++ codes "," ++ how_text is_stated ++ line_end ∷ []
+plan_line scene c limit is_stated = ended (ends_text scene c ++ codes "," ++ decimal limit ++ codes "," ++ how_text is_stated)
 
 unfoldable pub columns_line : List ℕ
-columns_line = codes "link,from,to,limit,how" ++ line_end ∷ []
+columns_line = ended (codes "link,from,to,limit,how")
 
 -- the names of the columns, and a line for each connection
 abbrev pub plan_text : Scene → List ℕ → List ℕ

@@ -13,7 +13,8 @@ use Rattle.scene_model.specs.Scenes.{app_at, no_app}
 use Rattle.scene_model.specs.declared.scene.AppDecl.{AppDecl}
 use Rattle.scene_model.specs.declared.scene.Scene.{Scene}
 use Rattle.scene_model.specs.declared.wait.Wait.{Wait}
-use Rattle.cycle_check.specs.CycleTexts.{cycle_text, ended, wait_line}
+use Rattle.music_base.specs.Lines.{ended}
+use Rattle.cycle_check.specs.CycleTexts.{cycle_text, wait_line}
 use Rattle.music_setup.specs.Apps as apps
 use Rattle.music_setup.specs.Apps.{apps_until, stop_of}
 use Rattle.music_setup.specs.Scenes as scenes

@@ -12,7 +12,7 @@ use Rattle.app_scripts.specs.declared.fault.RuleFault.TheVariants as rule
 use Rattle.port_match.specs.declared.fault.LinkKind.{LinkKind}
 use Rattle.port_match.specs.declared.fault.LinkKind.TheVariants.{UnknownApp, UnknownPort, Direction, Kind, Width, Unmapped, PairTwice, ContTwice}
 use Rattle.scene_model.specs.Cover.{IsBounded, most_waits}
-use Rattle.scene_model.specs.Logs.{line_end}
+use Rattle.music_base.specs.Lines.{ended}
 use Rattle.scene_model.specs.declared.scene.AppDecl.{AppDecl}
 use Rattle.scene_model.specs.declared.scene.Scene.{Scene}
 use Rattle.scene_model.specs.declared.wait.Wait.{Wait}
@@ -41,7 +41,7 @@ kind_name line.Unbuilt = codes "Unbuilt"
 
 -- a line of the text, and its fault
 unfoldable pub text_fault : ℕ → TextKind → List ℕ
-text_fault line kind = codes "text fault: line " ++ decimal line ++ codes ": " ++ kind_name kind ++ line_end ∷ []
+text_fault line kind = ended (codes "text fault: line " ++ decimal line ++ codes ": " ++ kind_name kind)
 
 -- ---- ports and rules
 
@@ -108,7 +108,7 @@ link_kind_name ContTwice = codes "ContTwice"
 
 -- a connection by its place from 1, and its fault
 unfoldable pub link_text : ℕ → LinkKind → List ℕ
-link_text place kind = at_place (codes "link fault: connection ") (suc place) (link_kind_name kind) ++ line_end ∷ []
+link_text place kind = ended (at_place (codes "link fault: connection ") (suc place) (link_kind_name kind))
 
 -- ---- a cycle
 
@@ -133,7 +133,7 @@ uncovered_text config cycle = cycle_text (named_scene (sections_of config)) cycl
 -- the text of a fault of a configuration, or of a text that is none. Want of memory has none
 unfoldable pub text_of_fault : Option Config → SetupFault → List ℕ
 text_of_fault config (setup.Text line kind) = text_fault line kind
-text_of_fault config (setup.Scene fault) = codes "scene fault: " ++ scene_text config fault ++ line_end ∷ []
+text_of_fault config (setup.Scene fault) = ended (codes "scene fault: " ++ scene_text config fault)
 text_of_fault config (setup.Link place what) = link_text place what
 text_of_fault config (setup.Uncovered cycle) = uncovered_text config cycle.0.items
 text_of_fault config setup.Memory = []

@@ -1,7 +1,7 @@
 //! The text of each fault.
 ghost use Rattle.std.specs.Prelude.{◌≡◌, ◌<◌, ◌++◌, [], ◌∷◌, codes, length, IfOk};
 ghost use Rattle.std.specs.Option.{option_copied};
-ghost use Rattle.scene_model.specs.Logs.{line_end};
+ghost use Rattle.music_base.specs.Lines.{ended};
 ghost use Rattle.music_setup.specs.Texts.{
   HasApp,
   HasText,
@@ -154,7 +154,7 @@ fn scene_line(
     fault: SceneFault,
 ) -> Result<Vec<u8>, NoMemory>
     requires { IsOfConfig (option_copied config) fault }
-    ensures { IfOk result (λ text. text.items ≡ codes "scene fault: " ++ scene_text (option_copied config.entry) fault ++ line_end ∷ []) }
+    ensures { IfOk result (λ text. text.items ≡ ended (codes "scene fault: " ++ scene_text (option_copied config.entry) fault)) }
 {
     let mut text = Vec::from_slice(alloc, b"scene fault: ")?;
     text.extend_from_slice(&scene_text(alloc, config, fault)?)?;

@@ -2,7 +2,7 @@
 use Rattle.std.proofs.Common.{◌≡◌, ℕ, ◌<◌, List, [], ◌∷◌, length, Err, refl, inl, inr, arith}
 use Rattle.std.specs.List.{onto_first}
 use Rattle.std.proofs.lemmas.Bool.{cases_Bool}
-use Rattle.config_text.specs.Lines.{is_line_feed, raw_lines}
+use Rattle.config_text.specs.Lines.{is_line_end, raw_lines}
 use Rattle.plain_run.specs.FirstForm.{no_line}
 
 pub raw_lines-nil : (text : List ℕ) → length text ≡ 0 → raw_lines text ≡ []
@@ -20,7 +20,7 @@ pub no_line-raw_lines : (number : ℕ) (text : List ℕ) → 0 < length text →
 unfolding raw_lines no_line
 no_line-raw_lines number [] some = absurd (omega arith)
 no_line-raw_lines number (b ∷ text) some =
-    elim (cases_Bool (is_line_feed b)) [
+    elim (cases_Bool (is_line_end b)) [
       | inl ends ↦ rw ends refl
       | inr goes ↦ rw goes (no_line-onto_first b number (raw_lines text))
     ]

@@ -2,7 +2,7 @@
 use Rattle.std.specs.Prelude.{ℕ, ◌-◌, List, [], ◌∷◌, ◌++◌, take, drop, codes}
 use Rattle.std.specs.List.{flat_map}
 use Rattle.plain_run.specs.declared.form.FirstForm.{FirstForm}
-use Rattle.config_text.specs.Canon.{ended}
+use Rattle.music_base.specs.Lines.{ended}
 
 abbrev pub text_of : List (List ℕ) → List ℕ
 text_of lines = flat_map ended lines

@@ -6,7 +6,8 @@ use Rattle.std.proofs.lemmas.Bool.{and_parts, or_from, or_cases, leb-true, eqb-t
 use Rattle.csv.specs.Writing.{default_writer, needs_byte, needs_quotes, field_text, fields_text, row_text, is_blank}
 use Rattle.std.specs.Prelude.{Option, unwrap_or}
 use Rattle.music_base.specs.Names.{is_in_words}
-use Rattle.scene_model.specs.Logs.{comma, line_end}
+use Rattle.music_base.specs.Lines.{ended}
+use Rattle.scene_model.specs.Logs.{comma}
 use Rattle.std.specs.Io.KnownBytes.{Appends}
 use Rattle.csv.specs.Writing.{writer_setup, fields_written, has_written, text_written}
 use Rattle.csv.specs.declared.writer.Writer.{Writer}
@@ -62,13 +63,13 @@ fields_text-plain field (next ∷ fields) plain =
     let others = and_parts (list_all is_in_words next) (are_plain fields) parts.1 in
     rw (field_text-plain next others.0) (ap (λ text. field ++ 44 ∷ text) (fields_text-plain next fields parts.1))
 
-pub row_text-plain : (fields : List (List ℕ)) → 2 ≤ length fields → are_plain fields ≡ true → row_text default_writer fields ≡ join_with_byte comma fields ++ line_end ∷ []
+pub row_text-plain : (fields : List (List ℕ)) → 2 ≤ length fields → are_plain fields ≡ true → row_text default_writer fields ≡ ended (join_with_byte comma fields)
 unfolding is_blank
 row_text-plain [] two plain = absurd (omega arith)
 row_text-plain (a ∷ []) two plain = absurd (omega arith)
 row_text-plain (a ∷ b ∷ fields) two plain =
     let parts = and_parts (list_all is_in_words a) (are_plain (b ∷ fields)) plain in
-    rw (field_text-plain a parts.0) (ap (λ text. text ++ line_end ∷ []) (fields_text-plain a (b ∷ fields) plain))
+    rw (field_text-plain a parts.0) (ap ended (fields_text-plain a (b ∷ fields) plain))
 
 -- text and a line behind it
 appended : (before after : Option (List ℕ)) (text line : List ℕ) → before ≡ Some text → Appends before after line → after ≡ Some (text ++ line)
@@ -91,10 +92,10 @@ pub one_more_line : {W : Type 0} (contents : W → Option (List ℕ)) (old new :
     → IsAtLineStart contents old → are_plain fields ≡ true → 2 ≤ length fields
     → ((fields_written old ≡ 0) → (has_written old ≡ false) → ((writer_setup old).style ≢ style.NonNumeric) → Appends (text_written contents old) (text_written contents new) (row_text (writer_setup old) fields))
     → writer_setup new ≡ writer_setup old → fields_written new ≡ 0 → has_written new ≡ false
-    → WroteLine contents old new (join_with_byte comma fields ++ line_end ∷ [])
-one_more_line contents old new fields was plain two appends setup ended clean =
-    let line : row_text (writer_setup old) fields ≡ join_with_byte comma fields ++ line_end ∷ [] = rw was.setup (row_text-plain fields two plain) in
-    let text : text_written contents new ≡ Some (written contents old ++ (join_with_byte comma fields ++ line_end ∷ [])) =
-    appended _ _ (written contents old) (join_with_byte comma fields ++ line_end ∷ []) was.told (rw line at (appends was.fields was.clean (quotes_by_need old was.setup))) in
-    let more : written contents new ≡ written contents old ++ (join_with_byte comma fields ++ line_end ∷ []) = ap (λ t. unwrap_or t []) text in
-    record { more = more; start = record { setup = setup ∙ was.setup; fields = ended; clean = clean; told = text ∙ ap (λ t. Some t) (sym more) } }
+    → WroteLine contents old new (ended (join_with_byte comma fields))
+one_more_line contents old new fields was plain two appends setup at_start clean =
+    let line : row_text (writer_setup old) fields ≡ ended (join_with_byte comma fields) = rw was.setup (row_text-plain fields two plain) in
+    let text : text_written contents new ≡ Some (written contents old ++ ended (join_with_byte comma fields)) =
+    appended _ _ (written contents old) (ended (join_with_byte comma fields)) was.told (rw line at (appends was.fields was.clean (quotes_by_need old was.setup))) in
+    let more : written contents new ≡ written contents old ++ ended (join_with_byte comma fields) = ap (λ t. unwrap_or t []) text in
+    record { more = more; start = record { setup = setup ∙ was.setup; fields = at_start; clean = clean; told = text ∙ ap (λ t. Some t) (sym more) } }

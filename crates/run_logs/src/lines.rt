@@ -1,7 +1,8 @@
 //! Lines of comma-separated fields in memory.
 ghost use Rattle.std.specs.Prelude.{◌≡◌, ◌++◌, ◌∷◌, [], ◌≤◌, List, OnOk, IfOk, map, length, Some, true};
 ghost use Rattle.std.specs.List.{flat_map, list_all, join_with_byte};
-ghost use Rattle.scene_model.specs.Logs.{comma, line_end, is_writable, line_of};
+ghost use Rattle.music_base.specs.Lines.{ended};
+ghost use Rattle.scene_model.specs.Logs.{comma, is_writable, line_of};
 ghost use Rattle.run_logs.specs.CsvLines.{IsAtLineStart, are_plain, written};
 
 use crate::fields::push_row;
@@ -29,7 +30,7 @@ pub fn push_line(writer: &mut Writer<Vec<u8>>, fields: &[&[u8]]) -> Result<(), N
     requires plain { are_plain (map (λ field. field.now) fields.now) ≡ true }
     requires two { 2 ≤ length fields.now }
     ensures line { OnOk result (written (λ v. Some v.items) writer.new ≡ written (λ v. Some v.items) writer.old
-        ++ (join_with_byte comma (map (λ field. field.now) fields.now) ++ line_end ∷ [])) }
+        ++ ended (join_with_byte comma (map (λ field. field.now) fields.now))) }
     ensures start { OnOk result (IsAtLineStart (λ v. Some v.items) writer.new) }
 {
     match writer.write_fields(fields) {

@@ -4,6 +4,7 @@ use Rattle.std.specs.List.{filter, flat_map, join_with_byte}
 use Rattle.std.specs.declared.cmp.Ordering.{Ordering}
 use Rattle.std.specs.Ordering.{ordering_then, nat_cmp}
 use Rattle.std.specs.Fmt.{decimal, signed_decimal}
+use Rattle.music_base.specs.Lines.{ended}
 use Rattle.music_base.specs.Names.{is_word}
 use Rattle.music_base.specs.Numbers.{below, in_order}
 use Rattle.music_base.specs.declared.item.Item.{Item}
@@ -69,12 +70,9 @@ rows scene table = in_order row_cmp (flat_map (λ b. flat_map (step_rows scene t
 
 -- ---- the bytes of the log
 
--- ',' and the end of a line
+-- ','
 abbrev pub comma : ℕ
 comma = 44
-
-abbrev pub line_end : ℕ
-line_end = 10
 
 -- the fields that depend on what a row tells. A message has local place 0 and global index 0, a value has an empty
 -- time, and an event an empty value
@@ -129,10 +127,10 @@ fields_of scene row =
 
 -- the names of the nine columns
 unfoldable pub header : List ℕ
-header = codes "clock,app,port,kind,rank,local,global,time,value" ++ line_end ∷ []
+header = ended (codes "clock,app,port,kind,rank,local,global,time,value")
 
 unfoldable pub line_of : Scene → Row → List ℕ
-line_of scene row = join_with_byte comma (fields_of scene row) ++ line_end ∷ []
+line_of scene row = ended (join_with_byte comma (fields_of scene row))
 
 -- the text of rows: the header, and a line for each
 unfoldable pub text_of : Scene → List Row → List ℕ

@@ -4,7 +4,7 @@ use Rattle.std.specs.List.{flat_map}
 use Rattle.index_maps.specs.declared.map.IndexMap.TheVariants.{Linear}
 use Rattle.index_maps.specs.declared.map.PortMap.{PortMap}
 use Rattle.index_maps.specs.declared.map.PortMap.TheVariants.{Each}
-use Rattle.scene_model.specs.Logs.{line_end}
+use Rattle.music_base.specs.Lines.{ended}
 use Rattle.scene_model.specs.declared.scene.Scene.{Scene}
 use Rattle.scene_model.specs.declared.scene.AppDecl.{AppDecl}
 use Rattle.scene_model.specs.declared.scene.Link.{Link}
@@ -55,7 +55,7 @@ link a p b q = record { from_app = a; from_port = p; to_app = b; to_port = q; wi
 
 -- each line with its end
 abbrev pub lines : List (List ℕ) → List ℕ
-lines = flat_map (λ line. line ++ line_end ∷ [])
+lines = flat_map ended
 
 -- a log of these rows
 abbrev pub log : List (List ℕ) → List ℕ

@@ -3,7 +3,7 @@ use Rattle.std.specs.List.{flat_map}
 use Rattle.std.proofs.lemmas.List.{take_all}
 use Rattle.config_text.specs.declared.link_text.LinkText.{LinkText}
 use Rattle.config_text.specs.Connections.{link_line}
-use Rattle.config_text.specs.Canon.{ended}
+use Rattle.music_base.specs.Lines.{ended}
 use Rattle.config_text.proofs.Written.{link_more}
 use Rattle.config_text.proofs.writing.put_links.Goals as goal
 

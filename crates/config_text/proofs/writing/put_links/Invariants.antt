@@ -1,6 +1,6 @@
 use Rattle.std.proofs.Common.{◌≡◌, ◌++◌, map, take}
 use Rattle.std.specs.List.{flat_map}
-use Rattle.config_text.specs.Canon.{ended}
+use Rattle.music_base.specs.Lines.{ended}
 use Rattle.config_text.specs.Connections.{link_line}
 use Rattle.config_text.proofs.writing.put_links.Given as goal
 

@@ -2,7 +2,8 @@ use Rattle.std.proofs.Common.{◌++◌, ap, ◌∙◌, arith}
 use Rattle.std.specs.List.{flat_map}
 use Rattle.std.proofs.lemmas.List.{take_all}
 use Rattle.config_text.specs.Pairs.{SectionList}
-use Rattle.config_text.specs.Canon.{ended, section_lines}
+use Rattle.music_base.specs.Lines.{ended}
+use Rattle.config_text.specs.Canon.{section_lines}
 use Rattle.config_text.proofs.Written.{section_more}
 use Rattle.config_text.proofs.writing.put_sections.Goals as goal
 

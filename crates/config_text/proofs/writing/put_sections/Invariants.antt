@@ -1,6 +1,7 @@
 use Rattle.std.proofs.Common.{◌≡◌, ◌++◌, take}
 use Rattle.std.specs.List.{flat_map}
-use Rattle.config_text.specs.Canon.{ended, section_lines}
+use Rattle.music_base.specs.Lines.{ended}
+use Rattle.config_text.specs.Canon.{section_lines}
 use Rattle.config_text.proofs.writing.put_sections.Given as goal
 
 abbrev pub invariant-loop-place : goal.invariant-loop-place

@@ -2,7 +2,8 @@ use Rattle.std.proofs.Common.{◌++◌, map, ap, ◌∙◌, arith}
 use Rattle.std.specs.List.{flat_map}
 use Rattle.std.proofs.lemmas.List.{take_all}
 use Rattle.config_text.specs.Pairs.{SettingList}
-use Rattle.config_text.specs.Canon.{ended, setting_line}
+use Rattle.music_base.specs.Lines.{ended}
+use Rattle.config_text.specs.Canon.{setting_line}
 use Rattle.config_text.proofs.Written.{setting_more}
 use Rattle.config_text.proofs.writing.put_settings.Goals as goal
 

@@ -3,7 +3,7 @@ use Rattle.std.specs.Fmt.{signed_decimal}
 use Rattle.std.proofs.lemmas.Int.{to_z-of_z}
 use mir.Syntax.{w128}
 use Rattle.scene_model.specs.Cover.{allowances, burdens}
-use Rattle.scene_model.specs.Logs.{line_end}
+use Rattle.music_base.specs.Lines.{line_end}
 use Rattle.cycle_check.specs.CycleTexts.{sums_line}
 use Rattle.cycle_check.proofs.JoinedLines.{joined_sums}
 use Rattle.cycle_check.proofs.texts.push_sums.Goals as goal

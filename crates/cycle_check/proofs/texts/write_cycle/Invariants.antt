@@ -1,6 +1,7 @@
 use Rattle.std.proofs.Common.{◌≡◌, ◌++◌, take, codes}
 use Rattle.std.specs.List.{flat_map}
-use Rattle.cycle_check.specs.CycleTexts.{ended, wait_line}
+use Rattle.music_base.specs.Lines.{ended}
+use Rattle.cycle_check.specs.CycleTexts.{wait_line}
 use Rattle.cycle_check.proofs.texts.write_cycle.Given as goal
 
 abbrev pub invariant-loop-wait : goal.invariant-loop-wait
