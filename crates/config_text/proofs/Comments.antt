@@ -13,7 +13,7 @@ comment_starts line even i lt is_even hash so_far =
     let rest : before_comment_after even (drop i line) ≡ [] = rw (drop_more line i 0 lt, is_even, hash) refl in
     sym (append-nil (take i line)) ∙ ap (λ (x : List ℕ). take i line ++ x) (sym rest) ∙ so_far.so_far
 
-comment_goes : (line : List ℕ) (even next : Bool) (i : ℕ) → i < length line → (even && is_comment_sign (get_or line i 0)) ≡ false → next ≡ cond (is_quote (get_or line i 0)) (not even) even
+pub comment_goes : (line : List ℕ) (even next : Bool) (i : ℕ) → i < length line → (even && is_comment_sign (get_or line i 0)) ≡ false → next ≡ cond (is_quote (get_or line i 0)) (not even) even
     → IsBeforeComment line even i → IsBeforeComment line next (i + 1)
 comment_goes line even next i lt plain e so_far =
     let rest : before_comment_after even (drop i line) ≡ get_or line i 0 ∷ before_comment_after next (drop (i + 1) line) = rw (drop_more line i 0 lt, plain, e) refl in

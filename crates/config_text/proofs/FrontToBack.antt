@@ -39,6 +39,9 @@ pub record IsReadTo (bytes rest : List ℕ) (line : ℕ) (config : Config) : Typ
   pub faultless : (j : ℕ) → j < line → fault_at (lines bytes) j ≡ None
   pub room : line + length rest ≤ length bytes
 
+pub read_none : (bytes : List ℕ) (config : Config) → config ≡ record { defaults = []; sections = []; links = [] } → IsReadTo bytes bytes 0 config
+read_none bytes config none = record { place = refl; is = none; faultless = λ j lt. absurd (omega arith); room = omega arith }
+
 next_line : (bytes rest first others : List ℕ) (line : ℕ) → drop line (raw_lines bytes) ≡ raw_lines rest → raw_lines rest ≡ first ∷ raw_lines others → NextOf (lines bytes) line (content_of first) (map content_of (raw_lines others))
 next_line bytes rest first others line place e =
     next_of (lines bytes) line (content_of first) (map content_of (raw_lines others))

@@ -1,5 +1,5 @@
 -- Settings, sections and connections stay lawful.
-use Rattle.std.proofs.Common.{◌≡◌, ℕ, zero, suc, ◌-◌, ◌<◌, true, false, not, leb, ◌&&◌, ◌||◌, List, [], ◌∷◌, ◌++◌, length, Some, None, refl, ap, ◌∙◌, inl, inr, arith}
+use Rattle.std.proofs.Common.{◌≡◌, ℕ, zero, suc, ◌-◌, ◌<◌, true, false, not, leb, ◌&&◌, ◌||◌, List, [], ◌∷◌, ◌++◌, length, Some, None, refl, ap, ◌∙◌, inl, inr, arith, Bool}
 use Rattle.indexmap.specs.IndexMap.{insert_entry, set_value_at}
 use Rattle.config_text.proofs.LastSection.{set_last}
 use Rattle.std.specs.List.{list_any, list_all}
@@ -129,3 +129,7 @@ set_same (s ∷ []) old is = let same : s.1 ≡ old = cc in rw (← same) refl
 set_same (s ∷ t ∷ ss) old is =
     let i : suc (suc (length ss)) - 1 ≡ suc (suc (length ss) - 1) = omega arith in
     rw i (ap (λ (l : List (List ℕ × List Setting)). s ∷ l) (set_same (t ∷ ss) old is))
+
+pub turned : (x y : Bool) → y ≡ not x → x ≡ not y
+turned true y e = rw e refl
+turned false y e = rw e refl

@@ -29,7 +29,6 @@ impl Config {
 
 /// The value of a setting of a section: the section's own, else the default. The section is given by its place, from 0.
 /// A section has to stand there.
-#[tactic(auto, unfolding(crate::specs::Lookup::looked_up))]
 pub fn lookup<'a>(config: &'a Config, section: u32, name: &Name) -> Option<&'a Word>
     requires { section < length config.now.sections }
     ensures { option_copied result ≡ looked_up config.now section name.now }

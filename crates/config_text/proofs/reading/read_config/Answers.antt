@@ -1,8 +1,11 @@
 use Rattle.std.proofs.Common.{sym, length}
 use Rattle.std.proofs.lemmas.Bool.{eqb-true}
-use Rattle.config_text.proofs.FrontToBack.{read_on, fault_at_line, read_all}
+use Rattle.config_text.proofs.FrontToBack.{read_none, read_on, fault_at_line, read_all}
 use Rattle.config_text.proofs.SpelledLaws.{built_fault}
 use Rattle.config_text.proofs.reading.read_config.Goals as goal
+
+pub loop-rest-init : goal.loop-rest-init
+loop-rest-init c = read_none c.args.bytes.now c.new-config.result c.new-config.ensures
 
 pub loop-rest-preserved : goal.loop-rest-preserved
 loop-rest-preserved c =
