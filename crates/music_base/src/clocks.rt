@@ -18,7 +18,6 @@ pub fn steps_of(stop: Nanos, tick: Nanos) -> u64
 /// The step in which something of this time is due at an input of this latency: the last whose clock is not after
 /// their sum.
 /// Time and latency are at most 10^16 ns, and the tick is at least 1 ns.
-#[tactic(auto, unfolding(crate::specs::Clocks::due_step))]
 pub fn due(time: Nanos, latency: Nanos, tick: Nanos) -> u64
     requires time { time ≤ 10 ^ 16 }
     requires latency { latency ≤ 10 ^ 16 }
