@@ -19,6 +19,12 @@ use crate::{Config, LinkText, Settings, TextFault, TextKind};
 use music_base::{Name, NoMemory, Word};
 use std::alloc::Global;
 
+/// How many sections a text may have.
+const MOST_SECTIONS: usize = 32;
+
+/// How many connections a text may have.
+const MOST_LINKS: usize = 64;
+
 /// Why a line was not read into the configuration.
 #[derive(Clone, Copy)]
 pub enum LineFault {
@@ -39,7 +45,7 @@ fn section_fault(config: &Config, name: &Name) -> Option<TextKind>
 {
     if config.sections.contains(name) {
         Some(TextKind::RepeatedSection)
-    } else if config.sections.len() >= 32 {
+    } else if config.sections.len() >= MOST_SECTIONS {
         Some(TextKind::TooManySections)
     } else {
         None
@@ -49,7 +55,7 @@ fn section_fault(config: &Config, name: &Name) -> Option<TextKind>
 fn link_fault(config: &Config) -> Option<TextKind>
     ensures { result ≡ link_fault config.now }
 {
-    if config.links.len() >= 64 {
+    if config.links.len() >= MOST_LINKS {
         Some(TextKind::TooManyLinks)
     } else {
         None

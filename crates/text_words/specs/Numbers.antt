@@ -7,6 +7,7 @@ use Rattle.music_base.specs.Times.{is_point}
 
 -- ---- SIGNED
 
+-- the number, below zero where a '-' stands in front
 abbrev pub with_sign : Bool → ℕ → ℤ
 with_sign negative n = if negative then neg_ℤ (pos n) else pos n
 

@@ -69,7 +69,7 @@ fn worth(digits: &[u8]) -> u64
     ensures value { result ≡ worth digits.now }
     ensures small { result < 10 ^ most_fraction_digits }
 {
-    number_of(digits) * 10u64.pow(6 - digits.len() as u32)
+    number_of(digits) * 10u64.pow((MOST_FRACTION_DIGITS - digits.len()) as u32)
 }
 
 /// A decimal number without a sign, in millionths.
