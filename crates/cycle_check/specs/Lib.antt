@@ -1,2 +1,1 @@
 pub mod CycleTexts
-pub mod WorkedCycles

@@ -1,39 +1,19 @@
 //! Laws over the definitions: what they say of small scenes.
 ghost use Rattle.std.specs.Prelude.{◌≡◌, [], ◌∷◌, codes};
-ghost use Rattle.scene_model.specs.Cover.{IsTold};
-ghost use Rattle.scene_model.specs.Waits.{IsAccepted};
 ghost use Rattle.scene_model.specs.WorkedScenes.{lines};
 ghost use Rattle.scene_model.specs.WorkedWaits.{
-  latency_of_a_tick,
+  for_each_other,
+  for_itself,
+  for_room_and_block,
   little_room,
   no_latency,
   short_latency,
   to_itself,
-  to_itself_late,
-  uneven_but_late,
   uneven_ticks,
 };
 ghost use Rattle.cycle_check.specs.CycleTexts.{cycle_text};
-ghost use Rattle.cycle_check.specs.WorkedCycles.{for_each_other, for_itself, for_room_and_block, stated_waits};
 
-/// Cycles of small scenes are not covered, and told as they should be: no application waits twice in one, and the first
-/// waiter has the least place.
-pub fn worked_cycles_are_told()
-    ensures no_latency { IsTold (stated_waits no_latency) (for_each_other no_latency) }
-    ensures short_latency { IsTold (stated_waits short_latency) (for_each_other short_latency) }
-    ensures uneven_ticks { IsTold (stated_waits uneven_ticks) (for_each_other uneven_ticks) }
-    ensures to_itself { IsTold (stated_waits to_itself) (for_itself to_itself) }
-    ensures little_room { IsTold (stated_waits little_room) (for_room_and_block little_room) }
-{}
-
-/// The same scenes with a little more latency are accepted.
-pub fn worked_scenes_are_accepted()
-    ensures latency_of_a_tick { IsAccepted latency_of_a_tick }
-    ensures uneven_but_late { IsAccepted uneven_but_late }
-    ensures to_itself_late { IsAccepted to_itself_late }
-{}
-
-/// The texts of those cycles.
+/// The texts of cycles of small scenes that are not covered.
 pub fn worked_texts_hold()
     ensures no_latency { cycle_text no_latency (for_each_other no_latency) ≡ lines (
         codes "uncovered cycle"

@@ -9,5 +9,5 @@ mod texts;
 
 pub use cycle::Cycle;
 pub use judging::is_uncovered;
-pub use laws::{worked_cycles_are_told, worked_scenes_are_accepted, worked_texts_hold};
+pub use laws::worked_texts_hold;
 pub use texts::write_cycle;

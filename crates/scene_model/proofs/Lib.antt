@@ -24,4 +24,5 @@ pub mod Wanted
 pub mod WantedBlocks
 pub mod WellFormedScenes
 pub mod WorkedFaultless
+pub mod WorkedCycles
 pub mod WorkedLimits

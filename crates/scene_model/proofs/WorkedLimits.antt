@@ -1,49 +1,17 @@
--- Cycles and limits of scenes that can be followed by hand.
-use Rattle.std.proofs.Common.{◌≡◌, ℕ, zero, suc, ◌<◌, ◌≤◌, refl, arith, List, [], ◌∷◌, ℤ, pos, None, Some}
-use Rattle.std.specs.Prelude.{Contains, ◌≤ℤ◌, neg_ℤ, IfSome}
-use Rattle.std.specs.List.{AllByRecursion}
-use Rattle.std.proofs.lemmas.Bool.Decides.{nat_tests}
+-- Limits of scenes that can be followed by hand.
+use Rattle.std.proofs.Common.{ℕ, zero, suc, ◌<◌, ◌≤◌, refl, arith, [], ◌∷◌, pos, None, Some}
+use Rattle.std.specs.Prelude.{◌≤ℤ◌, neg_ℤ, IfSome}
 use Rattle.std.proofs.lemmas.Int.{ints}
-use Rattle.std.proofs.lemmas.List.Elements.{All-nil, All-cons, All-from_recursion}
+use Rattle.std.proofs.lemmas.List.Elements.{All-from_recursion}
 use Rattle.music_base.specs.Numbers.{gcd, floor_to}
 use Rattle.scene_model.specs.Clocks.{allowance, latency, delay, tick}
 use Rattle.scene_model.specs.Scenes.{sender, receiver}
-use Rattle.scene_model.specs.Cover.{AllCovered, HasUncovered, Passes, IsTold, allowances, burdens}
+use Rattle.scene_model.specs.Cover.{AllCovered, HasUncovered, Passes}
 use Rattle.scene_model.specs.Waits.{waits, stated, stated_limits, block_wait, room_wait, IsAccepted, IsLimit, AreLimits, Fits, greatest_limit, greatest_potential}
 use Rattle.scene_model.specs.WellFormed.{IsWellFormed}
-use Rattle.scene_model.specs.declared.scene.Scene.{Scene}
-use Rattle.scene_model.specs.declared.wait.Wait.{Wait}
 use Rattle.scene_model.specs.WorkedScenes.{slow_receiver}
-use Rattle.scene_model.specs.WorkedWaits.{latency_of_a_tick, little_room, no_latency, short_latency, to_itself, to_itself_late, two_ways}
-use Rattle.scene_model.proofs.Cycles.{passed_are_covered}
-
--- ---- cycles of one and of two waits
-
-told_one : (all : List Wait) (w : Wait) → w.awaited ≡ w.waiter → Contains all w → w.allowance ≤ℤ w.burden → IsTold all (w ∷ [])
-told_one all w round there low = record {
-  uncovered = record { cycle_of = record { closed = round; among = All-cons (Contains all) w [] there (All-nil (Contains all)) }; uncovered = omega (arith, ints) };
-  once = λ a. grind (arith, nat_tests);
-  least = All-nil (λ (v : Wait). w.waiter ≤ v.waiter);
-}
-
-told_two : (all : List Wait) (w v : Wait) → w.awaited ≡ v.waiter → v.awaited ≡ w.waiter → w.waiter < v.waiter → Contains all w → Contains all v
-    → allowances (w ∷ v ∷ []) ≤ℤ burdens (w ∷ v ∷ []) → IsTold all (w ∷ v ∷ [])
-told_two all w v there back less has_w has_v low = record {
-  uncovered = record {
-    cycle_of = record { closed = (meets, back); among = All-cons (Contains all) w (v ∷ []) has_w (All-cons (Contains all) v [] has_v (All-nil (Contains all))) };
-    uncovered = low;
-  };
-  once = λ a. grind (arith, nat_tests);
-  least = All-cons (λ (u : Wait). w.waiter ≤ u.waiter) v [] (omega arith) (All-nil (λ (u : Wait). w.waiter ≤ u.waiter));
-}
-  where
-    meets : v.waiter ≡ w.awaited
-    meets = cc
-
--- ---- waits that pass
-
-covered_by : (n : ℕ) (potentials : List ℤ) (all : List Wait) → AllByRecursion (Passes n potentials) all → AllCovered all
-covered_by n potentials all passed = passed_are_covered n potentials all (All-from_recursion (Passes n potentials) all passed)
+use Rattle.scene_model.specs.WorkedWaits.{latency_of_a_tick, two_ways}
+use Rattle.scene_model.proofs.WorkedCycles.{covered_by, told_two}
 
 -- ---- a receiver whose tick is ten of the sender's
 
@@ -140,28 +108,7 @@ four_ways-limit (suc (suc c)) lt = absurd (omega arith)
 pub four_ways-limits : AreLimits (two_ways (Some 4)) (1 ∷ 4 ∷ [])
 four_ways-limits = record { counted = refl; each = four_ways-limit }
 
-pub three_ways-told : IsTold (waits little_room (stated_limits little_room)) (room_wait little_room 1 3 ∷ block_wait little_room 0 ∷ [])
-unfolding allowance latency delay tick sender receiver gcd floor_to block_wait room_wait stated
-three_ways-told =
-    told_two (waits little_room (stated_limits little_room)) (room_wait little_room 1 3) (block_wait little_room 0) refl refl (omega arith) (2, omega arith, refl) (0, omega arith, refl) (omega (arith, ints))
-
--- ---- loops
-
--- the applications of a pair wait for each other's blocks
-abbrev pub pair_cycle : Scene → List Wait
-pair_cycle scene = block_wait scene 1 ∷ block_wait scene 0 ∷ []
-
-pub pair-no_latency : IsTold (waits no_latency (stated_limits no_latency)) (pair_cycle no_latency)
-unfolding allowance latency delay tick sender receiver gcd floor_to block_wait room_wait stated
-pair-no_latency = told_two (waits no_latency (stated_limits no_latency)) (block_wait no_latency 1) (block_wait no_latency 0) refl refl (omega arith) (1, omega arith, refl) (0, omega arith, refl) (omega (arith, ints))
-
-pub pair-almost : IsTold (waits short_latency (stated_limits short_latency)) (pair_cycle short_latency)
-unfolding allowance latency delay tick sender receiver gcd floor_to block_wait room_wait stated
-pair-almost = told_two (waits short_latency (stated_limits short_latency)) (block_wait short_latency 1) (block_wait short_latency 0) refl refl (omega arith) (1, omega arith, refl) (0, omega arith, refl) (omega (arith, ints))
-
-pub pair-accepted : IsAccepted latency_of_a_tick
-unfolding allowance latency delay tick sender receiver gcd floor_to block_wait room_wait stated
-pair-accepted = covered_by 2 (pos 0 ∷ pos 1 ∷ []) (waits latency_of_a_tick (stated_limits latency_of_a_tick)) (omega (arith, ints), (omega (arith, ints), tt))
+-- ---- two applications that send to each other
 
 pair-first : AllCovered (waits latency_of_a_tick (Some 1 ∷ None ∷ []))
 unfolding allowance latency delay tick sender receiver gcd floor_to block_wait room_wait
@@ -179,11 +126,3 @@ pair-limit (suc (suc c)) lt = absurd (omega arith)
 
 pub pair-limits : AreLimits latency_of_a_tick (1 ∷ 1 ∷ [])
 pair-limits = record { counted = refl; each = pair-limit }
-
-pub own_loop-accepted : IsAccepted to_itself_late
-unfolding allowance latency delay tick sender receiver gcd floor_to block_wait room_wait stated
-own_loop-accepted = covered_by 1 (pos 0 ∷ []) (waits to_itself_late (stated_limits to_itself_late)) (omega (arith, ints), tt)
-
-pub own_loop-almost : IsTold (waits to_itself (stated_limits to_itself)) (block_wait to_itself 0 ∷ [])
-unfolding allowance latency delay tick sender receiver gcd floor_to block_wait room_wait stated
-own_loop-almost = told_one (waits to_itself (stated_limits to_itself)) (block_wait to_itself 0) refl (0, omega arith, refl) (omega (arith, ints))

@@ -88,11 +88,15 @@ stated scene c = at_most greatest_limit (stated_by scene c (output_of scene c).b
 abbrev pub stated_limits : Scene → Limits
 stated_limits scene = map (stated scene) (below (length scene.links))
 
+-- the waits of a scene under its stated limits
+abbrev pub stated_waits : Scene → List Wait
+stated_waits scene = waits scene (stated_limits scene)
+
 -- ---- accepted scenes
 
 -- a scene is accepted where every cycle of its waits under stated limits is covered
 abbrev pub IsAccepted : Scene → Type 0
-IsAccepted scene = AllCovered (waits scene (stated_limits scene))
+IsAccepted scene = AllCovered (stated_waits scene)
 
 -- ---- the limits of an accepted scene
 

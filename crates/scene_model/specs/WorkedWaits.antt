@@ -1,10 +1,12 @@
--- Small scenes whose waits and limits can be followed by hand. Times are in ns.
+-- Small scenes whose waits, cycles and limits can be followed by hand. Times are in ns.
 use Rattle.std.specs.Prelude.{ℕ, List, [], ◌∷◌, Option, Some, codes}
+use Rattle.scene_model.specs.Waits.{block_wait, room_wait}
 use Rattle.scene_model.specs.WorkedScenes.{connected, input, linear, link, ms, output}
 use Rattle.scene_model.specs.declared.port.PortDecl.{PortDecl}
 use Rattle.scene_model.specs.declared.port.PortKind.TheVariants.{Events}
 use Rattle.scene_model.specs.declared.scene.AppDecl.{AppDecl}
 use Rattle.scene_model.specs.declared.scene.Scene.{Scene}
+use Rattle.scene_model.specs.declared.wait.Wait.{Wait}
 
 -- ---- two applications that send to each other
 
@@ -45,6 +47,10 @@ uneven_ticks = pair (ms 2) (ms 3) 3_999_999 0
 abbrev pub uneven_but_late : Scene
 uneven_but_late = pair (ms 2) (ms 3) (ms 4) 0
 
+-- their cycle: a waits for a block of b, and b for one of a
+abbrev pub for_each_other : Scene → List Wait
+for_each_other scene = block_wait scene 1 ∷ block_wait scene 0 ∷ []
+
 -- ---- one application that sends to itself
 
 abbrev pub alone : ℕ → Scene
@@ -55,6 +61,10 @@ to_itself = alone 999_999
 
 abbrev pub to_itself_late : Scene
 to_itself_late = alone (ms 1)
+
+-- its cycle: a waits for a block of its own
+abbrev pub for_itself : Scene → List Wait
+for_itself scene = block_wait scene 0 ∷ []
 
 -- ---- two connections from one application to another
 
@@ -72,6 +82,10 @@ two_ways buffered = record {
 -- the second output keeps three blocks, which is one too few
 abbrev pub little_room : Scene
 little_room = two_ways (Some 3)
+
+-- its cycle: gen waits for room on the second connection, and sink for a block on the first
+abbrev pub for_room_and_block : Scene → List Wait
+for_room_and_block scene = room_wait scene 1 3 ∷ block_wait scene 0 ∷ []
 
 -- ---- one connection whose ends state how many ticks they buffer
 

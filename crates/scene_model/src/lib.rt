@@ -40,4 +40,6 @@ pub use rule::Rule;
 pub use scene::{AppDecl, Link, Scene};
 pub use time_laws::times_are_periods_apart;
 pub use wait::{Wait, WaitKind};
-pub use worked_orders::{worked_cycles_hold, worked_limits_hold, worked_order_holds};
+pub use worked_orders::{
+    worked_cycles_hold, worked_limits_hold, worked_order_holds, worked_scenes_are_accepted,
+};

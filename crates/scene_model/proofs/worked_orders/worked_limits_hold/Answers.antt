@@ -1,4 +1,4 @@
-use Rattle.scene_model.proofs.WorkedLimits.{slow_receiver-limits, two_ways-accepted, two_ways-limits, two_ways-fits, two_ways-well_formed, four_ways-limits, three_ways-told}
+use Rattle.scene_model.proofs.WorkedLimits.{slow_receiver-limits, two_ways-accepted, two_ways-limits, two_ways-fits, two_ways-well_formed, four_ways-limits, pair-limits}
 use Rattle.scene_model.proofs.worked_orders.worked_limits_hold.Goals as goal
 
 pub returns : goal.returns
@@ -9,5 +9,5 @@ returns c = record {
   fits = two_ways-fits;
   well_formed = two_ways-well_formed;
   stated = four_ways-limits;
-  too_few = three_ways-told;
+  latency_of_a_tick = pair-limits;
 }
