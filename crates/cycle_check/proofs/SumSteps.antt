@@ -31,5 +31,5 @@ judged all cycle a b a_fits b_fits a_is b_is closed among = (
     cycle_of = record { closed = closed; among = among };
     uncovered = let le = le_from_test (to_z w128 (of_z w128 a)) (to_z w128 (of_z w128 b)) passed in omega (arith, ints, le, a_fits, b_fits, a_is, b_is);
   }),
-  (λ told. test_from_le (to_z w128 (of_z w128 a)) (to_z w128 (of_z w128 b)) (omega (arith, ints, told.uncovered, a_fits, b_fits, a_is, b_is))),
+  (λ found. test_from_le (to_z w128 (of_z w128 a)) (to_z w128 (of_z w128 b)) (omega (arith, ints, found.uncovered, a_fits, b_fits, a_is, b_is))),
 )

@@ -19,7 +19,7 @@ use Rattle.scene_model.specs.Faults.{IsFaultless}
 use Rattle.scene_model.specs.Logs.{log_of}
 use Rattle.scene_model.specs.Waits.{IsAccepted}
 use Rattle.scene_model.specs.declared.scene.Scene.{Scene}
-use Rattle.scene_model.proofs.AcceptedOrTold.{accepted_is_live, accepted_or_told, not_both}
+use Rattle.scene_model.proofs.AcceptedOrReportable.{accepted_is_live, accepted_or_reportable, not_both}
 use Rattle.cycle_check.specs.CycleTexts.{cycle_text}
 use Rattle.music_setup.specs.Scenes.{scene_of}
 use Rattle.music_setup.specs.Texts.{text_of_fault}
@@ -73,13 +73,13 @@ form_answer (Ok form) = (Done, log_of (plain.scene_of form), (refl, refl))
 form_answer (Err fault) = (TextFault, text_of_fault None (setup.Text fault.0 fault.1), (refl, refl))
 
 checked_answer : (scene : Scene) → IsFaultless scene → (status : Status) × (text : List ℕ) × AnswersChecked scene status text
-checked_answer scene faultless = elim (accepted_or_told scene faultless) [
+checked_answer scene faultless = elim (accepted_or_reportable scene faultless) [
   | inl accepted ↦ (Done, ok_text scene, inr (accepted, (refl, refl)))
   | inr told ↦ (CycleFault, cycle_text scene told.0, inl (told.0, told.1, refl, refl))
 ]
 
 planned_answer : (scene : Scene) → IsFaultless scene → (status : Status) × (text : List ℕ) × AnswersPlanned scene status text
-planned_answer scene faultless = elim (accepted_or_told scene faultless) [
+planned_answer scene faultless = elim (accepted_or_reportable scene faultless) [
   | inl accepted ↦
       let live = accepted_is_live scene faultless accepted in
       (Done, plan_text scene live.0, inr (accepted, live.0, live.1, (refl, refl)))
@@ -138,7 +138,7 @@ form_done : (found : Result FirstForm (ℕ × TextKind)) (status : Status) (text
 form_done (Ok form) status text ok answers = answers.0
 form_done (Err fault) status text ok answers = absurd cc
 
--- an accepted scene has no cycle that is told
+-- an accepted scene has no cycle that can be reported
 checked_done : (scene : Scene) (status : Status) (text : List ℕ) → IsAccepted scene → AnswersChecked scene status text → status ≡ Done
 checked_done scene status text accepted answers = elim answers [
   | inl uncovered ↦ absurd (not_both scene uncovered.0 accepted uncovered.1)

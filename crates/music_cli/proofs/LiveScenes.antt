@@ -6,7 +6,7 @@ use Rattle.config_text.specs.declared.config.Config.{Config}
 use Rattle.config_text.proofs.SpelledLaws.{spelled_lawful}
 use Rattle.scene_model.specs.Faults.{IsFaultless}
 use Rattle.scene_model.specs.declared.scene.Scene.{Scene}
-use Rattle.scene_model.proofs.AcceptedOrTold.{accepted_is_live}
+use Rattle.scene_model.proofs.AcceptedOrReportable.{accepted_is_live}
 use Rattle.music_setup.specs.Scenes.{scene_of}
 use Rattle.music_setup.specs.declared.fault.SetupFault.{SetupFault}
 use Rattle.music_setup.specs.declared.fault.SetupFault.TheVariants as setup

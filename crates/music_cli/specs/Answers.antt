@@ -6,7 +6,7 @@ use Rattle.config_text.specs.Text.{Spells, HasFault}
 use Rattle.config_text.specs.declared.config.Config.{Config}
 use Rattle.plain_run.specs.declared.form.FirstForm.{FirstForm}
 use Rattle.config_text.specs.declared.text_kind.TextKind.{TextKind}
-use Rattle.scene_model.specs.Cover.{IsTold}
+use Rattle.scene_model.specs.Cover.{IsReportable}
 use Rattle.music_base.specs.Lines.{ended}
 use Rattle.scene_model.specs.Logs.{log_of}
 use Rattle.scene_model.specs.Orders.{IsLive}
@@ -84,7 +84,7 @@ AnswersFault config fault status text = (status ≡ status_of fault) × (text �
 -- it, and its first waiter has the least place.
 abbrev pub AnswersUncovered : Scene → Status → List ℕ → Type 0
 AnswersUncovered scene status text =
-    (cycle : List Wait) × IsTold (waits scene (stated_limits scene)) cycle × (status ≡ CycleFault) × (text ≡ cycle_text scene cycle)
+    (cycle : List Wait) × IsReportable (waits scene (stated_limits scene)) cycle × (status ≡ CycleFault) × (text ≡ cycle_text scene cycle)
 
 -- `check` answers the size of an accepted scene, and of any other one a cycle that is not covered
 abbrev pub AnswersChecked : Scene → Status → List ℕ → Type 0

@@ -5,7 +5,7 @@ use Rattle.std.proofs.lemmas.List.{length-map}
 use Rattle.config_text.specs.Pairs.{SettingList}
 use Rattle.config_text.specs.declared.text_kind.TextKind.TheVariants.{Unbuilt}
 use Rattle.cycle_check.specs.CycleTexts.{IsBetween}
-use Rattle.scene_model.specs.Cover.{IsTold}
+use Rattle.scene_model.specs.Cover.{IsReportable}
 use Rattle.scene_model.specs.Faults.{IsFaultless}
 use Rattle.scene_model.specs.declared.scene.AppDecl.{AppDecl}
 use Rattle.scene_model.specs.declared.wait.Wait.{Wait}
@@ -18,7 +18,7 @@ use Rattle.config_text.specs.declared.text_fault.TextFault.{TextFault}
 use Rattle.config_text.specs.declared.text_fault.TextFault.TheVariants as text
 use Rattle.scene_model.specs.Waits.{stated_limits, waits}
 use Rattle.scene_model.specs.declared.scene.Scene.{Scene}
-use Rattle.tick_plan.specs.Faults.{TellsUncovered}
+use Rattle.tick_plan.specs.Faults.{ReportsUncovered}
 use Rattle.tick_plan.specs.declared.fault.NegotiateFault.{NegotiateFault}
 use Rattle.tick_plan.specs.declared.fault.NegotiateFault.TheVariants as plan
 use Rattle.music_setup.specs.Faults.{IsSetupFault, of_plan, of_text}
@@ -34,7 +34,7 @@ scene_fault config (setup.Link place what) is = is
 scene_fault config (setup.Uncovered cycle) is = absurd is
 scene_fault config setup.Memory is = tt
 
-pub plan_fault : (config : Config) (scene : Scene) (fault : NegotiateFault) → scene_of config ≡ Ok scene → TellsUncovered (waits scene (stated_limits scene)) fault → IsConfigFault config (of_plan fault)
+pub plan_fault : (config : Config) (scene : Scene) (fault : NegotiateFault) → scene_of config ≡ Ok scene → ReportsUncovered (waits scene (stated_limits scene)) fault → IsConfigFault config (of_plan fault)
 plan_fault config scene plan.Memory describes told = tt
 plan_fault config scene (plan.Uncovered cycle) describes told = (scene, describes, told)
 
@@ -57,14 +57,14 @@ as_many config scene describes =
     ∙ ap (λ (names : List (List ℕ)). length names) (names_of_scene config scene describes)
     ∙ length-map config.sections (λ (section : List ℕ × SettingList). section.0)
 
-told_has_text : (config : Config) (scene : Scene) (cycle : List Wait) → scene_of config ≡ Ok scene → IsFaultless scene → IsTold (waits scene (stated_limits scene)) cycle → HasCycleText (length config.sections) cycle
+told_has_text : (config : Config) (scene : Scene) (cycle : List Wait) → scene_of config ≡ Ok scene → IsFaultless scene → IsReportable (waits scene (stated_limits scene)) cycle → HasCycleText (length config.sections) cycle
 told_has_text config scene cycle describes faultless told = record {
   between = subst (λ (n : ℕ). All (IsBetween n) cycle) (as_many config scene describes) (told_between scene cycle faultless told);
   bounded = told_bounded scene cycle faultless told;
   short = told_short scene cycle faultless told;
 }
 
-pub plan_has_text : (config : Config) (scene : Scene) (fault : NegotiateFault) → scene_of config ≡ Ok scene → IsFaultless scene → TellsUncovered (waits scene (stated_limits scene)) fault
+pub plan_has_text : (config : Config) (scene : Scene) (fault : NegotiateFault) → scene_of config ≡ Ok scene → IsFaultless scene → ReportsUncovered (waits scene (stated_limits scene)) fault
     → (of_plan fault ≡ setup.Memory → ⊥) → HasText (Some config) (of_plan fault)
 plan_has_text config scene plan.Memory describes faultless told some = absurd (some refl)
 plan_has_text config scene (plan.Uncovered cycle) describes faultless told some = told_has_text config scene cycle.0.items describes faultless told

@@ -5,7 +5,7 @@ use Rattle.std.specs.Int.{IsInRange}
 use Rattle.std.specs.List.{range_with_len}
 use Rattle.std.proofs.lemmas.List.Elements.{All-nil, All-cons, All-weaker}
 use Rattle.std.proofs.lemmas.List.FromFn.{length-map-range_with_len}
-use Rattle.scene_model.specs.Cover.{IsBounded, IsTold, IsWithin, most_waits}
+use Rattle.scene_model.specs.Cover.{IsBounded, IsReportable, IsWithin, most_waits}
 use Rattle.scene_model.specs.Faults.{IsFaultless}
 use Rattle.scene_model.specs.Limits.{most_buffered}
 use Rattle.scene_model.specs.Scenes.{input_of, output_of}
@@ -13,7 +13,7 @@ use Rattle.scene_model.specs.Waits.{IsLawfulLimit, at_most, greatest_limit, stat
 use Rattle.scene_model.specs.declared.scene.Scene.{Scene}
 use Rattle.scene_model.specs.declared.wait.Wait.{Wait}
 use Rattle.scene_model.proofs.Bounds.{has_options_at}
-use Rattle.scene_model.proofs.Cycles.{All-among, IsTold-short}
+use Rattle.scene_model.proofs.Cycles.{All-among, IsReportable-short}
 use Rattle.scene_model.proofs.WaitBounds.{waits_within}
 use Rattle.cycle_check.specs.CycleTexts.{IsBetween}
 
@@ -42,21 +42,21 @@ stated_within : (scene : Scene) → IsFaultless scene → All (IsWithin (length 
 stated_within scene faultless =
     waits_within scene (stated_limits scene) faultless (length-map-range_with_len (stated scene) 0 (length scene.links)) (stated_lawful scene faultless)
 
-told_within : (scene : Scene) (cycle : List Wait) → IsFaultless scene → IsTold (waits scene (stated_limits scene)) cycle → All (IsWithin (length scene.apps)) cycle
+told_within : (scene : Scene) (cycle : List Wait) → IsFaultless scene → IsReportable (waits scene (stated_limits scene)) cycle → All (IsWithin (length scene.apps)) cycle
 told_within scene cycle faultless told =
     All-among (IsWithin (length scene.apps)) (waits scene (stated_limits scene)) cycle (stated_within scene faultless) told.uncovered.cycle_of.among
 
-pub told_between : (scene : Scene) (cycle : List Wait) → IsFaultless scene → IsTold (waits scene (stated_limits scene)) cycle → All (IsBetween (length scene.apps)) cycle
+pub told_between : (scene : Scene) (cycle : List Wait) → IsFaultless scene → IsReportable (waits scene (stated_limits scene)) cycle → All (IsBetween (length scene.apps)) cycle
 told_between scene cycle faultless told =
     All-weaker (IsWithin (length scene.apps)) (IsBetween (length scene.apps)) (λ w is. record { waiter = is.waiter; awaited = is.awaited }) cycle (told_within scene cycle faultless told)
 
-pub told_bounded : (scene : Scene) (cycle : List Wait) → IsFaultless scene → IsTold (waits scene (stated_limits scene)) cycle → All IsBounded cycle
+pub told_bounded : (scene : Scene) (cycle : List Wait) → IsFaultless scene → IsReportable (waits scene (stated_limits scene)) cycle → All IsBounded cycle
 told_bounded scene cycle faultless told =
     All-weaker (IsWithin (length scene.apps)) IsBounded
     (λ w is. record { allowance_low = is.allowance_low; allowance_high = is.allowance_high; burden_low = is.burden_low; burden_high = is.burden_high })
     cycle (told_within scene cycle faultless told)
 
-pub told_short : (scene : Scene) (cycle : List Wait) → IsFaultless scene → IsTold (waits scene (stated_limits scene)) cycle → length cycle ≤ most_waits
+pub told_short : (scene : Scene) (cycle : List Wait) → IsFaultless scene → IsReportable (waits scene (stated_limits scene)) cycle → length cycle ≤ most_waits
 told_short scene cycle faultless told =
-    let short : length cycle ≤ length scene.apps = IsTold-short (length scene.apps) (waits scene (stated_limits scene)) cycle (stated_within scene faultless) told in
+    let short : length cycle ≤ length scene.apps = IsReportable-short (length scene.apps) (waits scene (stated_limits scene)) cycle (stated_within scene faultless) told in
     omega (arith, short, faultless.apps.few)

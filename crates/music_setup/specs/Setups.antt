@@ -3,7 +3,7 @@ use Rattle.std.specs.Prelude.{⊤, ◌≡◌, ℕ, List, map, Ok}
 use Rattle.std.specs.Option.{is_some}
 use Rattle.config_text.specs.Text.{HasFault, Spells}
 use Rattle.config_text.specs.declared.config.Config.{Config}
-use Rattle.scene_model.specs.Cover.{IsTold}
+use Rattle.scene_model.specs.Cover.{IsReportable}
 use Rattle.scene_model.specs.Faults.{IsFaultless}
 use Rattle.scene_model.specs.Waits.{AreLimits, IsAccepted, stated_limits, waits}
 use Rattle.scene_model.specs.declared.scene.Scene.{Scene}
@@ -35,7 +35,7 @@ SpellsScene bytes scene = (config : Config) × Spells config bytes × (scene_of 
 -- the configuration describes a scene with this cycle of waits under stated limits that is not covered; no application waits
 -- twice in it, and its first waiter has the least place
 abbrev pub HasUncovered : Config → List Wait → Type 0
-HasUncovered config cycle = (scene : Scene) × (scene_of config ≡ Ok scene) × IsTold (waits scene (stated_limits scene)) cycle
+HasUncovered config cycle = (scene : Scene) × (scene_of config ≡ Ok scene) × IsReportable (waits scene (stated_limits scene)) cycle
 
 -- the first fault of a configuration, or where it has none a cycle of its scene
 abbrev pub IsConfigFault : Config → SetupFault → Type 0

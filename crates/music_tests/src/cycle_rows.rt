@@ -1,5 +1,5 @@
 //! Applications that can wait for each other, and what `check` answers of them: a cycle of waits that is not covered, or how
-//! large the scene is. Where a cycle is told, it is the only one that is not covered, of those in which no application
+//! large the scene is. Where a cycle is reported, it is the only one that is not covered, of those in which no application
 //! waits twice.
 use crate::rows::Row;
 use crate::texts::SLOW;

@@ -5,7 +5,7 @@ use Rattle.std.proofs.lemmas.List.{drop_more}
 use Rattle.std.proofs.lemmas.List.Elements.{All-tail, All-contains, All-head, All-take, All-drop, All-append, All-weaker}
 use Rattle.std.specs.List.{All, Contains}
 use Rattle.scene_model.specs.declared.wait.Wait.{Wait}
-use Rattle.scene_model.specs.Cover.{IsWalk, AreAmong, IsCycleOf, allowances, burdens, AllCovered, IsUncovered, HasUncovered, WaitsOnce, StartsLeast, IsTold, potential, Passes, IsWithin}
+use Rattle.scene_model.specs.Cover.{IsWalk, AreAmong, IsCycleOf, allowances, burdens, AllCovered, IsUncovered, HasUncovered, WaitsOnce, StartsLeast, IsReportable, potential, Passes, IsWithin}
 use Rattle.scene_model.proofs.Walks.{scaled-sub, scaled-add, scaled-ge, scaled-le-zero, sum_of-turned, IsCycle-turned, count_at-turned, length-le_from_once}
 
 -- ---- waits that pass the test of potentials
@@ -80,13 +80,13 @@ HasUncovered-more more fewer has h = (h.0, IsUncovered-more more fewer h.0 has h
 pub All-among : (P : Wait → Type 0) (all ws : List Wait) → All P all → AreAmong all ws → All P ws
 All-among P all ws each among = All-weaker (Contains all) P (λ w in'. All-contains P all w each in') ws among
 
--- ---- the cycle that is told
+-- ---- the cycle that is reported
 
 -- it has at most as many waits as there are applications
-pub IsTold-short : (n : ℕ) (all cycle : List Wait) → All (IsWithin n) all → IsTold all cycle → length cycle ≤ n
-IsTold-short n all cycle within told =
-    let each : All (IsWithin n) cycle = All-among (IsWithin n) all cycle within told.uncovered.cycle_of.among in
-    length-le_from_once (λ w. w.waiter) n cycle (All-weaker (IsWithin n) (λ w. w.waiter < n) (λ w h. h.waiter) cycle each) told.once
+pub IsReportable-short : (n : ℕ) (all cycle : List Wait) → All (IsWithin n) all → IsReportable all cycle → length cycle ≤ n
+IsReportable-short n all cycle within found =
+    let each : All (IsWithin n) cycle = All-among (IsWithin n) all cycle within found.uncovered.cycle_of.among in
+    length-le_from_once (λ w. w.waiter) n cycle (All-weaker (IsWithin n) (λ w. w.waiter < n) (λ w h. h.waiter) cycle each) found.once
 
 -- a short list whose n-fold excess is below its length is not covered
 pub uncovered_from_excess : (n : ℕ) (ws : List Wait) → length ws ≤ n → (pos n *ℤ (allowances ws -ℤ burdens ws)) <ℤ pos (length ws) → allowances ws ≤ℤ burdens ws
@@ -110,9 +110,9 @@ IsUncovered-turned all cycle k lt h = record {
 }
 
 -- an uncovered cycle from its least waiter on
-pub IsTold-turned : (all cycle : List Wait) (k : ℕ) (d : Wait) → k < length cycle → IsUncovered all cycle → WaitsOnce cycle →
-    All (λ w. (get_or cycle k d).waiter ≤ w.waiter) cycle → IsTold all (drop k cycle ++ take k cycle)
-IsTold-turned all cycle k d lt h once least = record {
+pub IsReportable-turned : (all cycle : List Wait) (k : ℕ) (d : Wait) → k < length cycle → IsUncovered all cycle → WaitsOnce cycle →
+    All (λ w. (get_or cycle k d).waiter ≤ w.waiter) cycle → IsReportable all (drop k cycle ++ take k cycle)
+IsReportable-turned all cycle k d lt h once least = record {
   uncovered = IsUncovered-turned all cycle k lt h;
   once = λ a. omega (arith, once a, count_at-turned (λ w. w.waiter) a cycle k);
   least = StartsLeast-turned cycle k d lt least;

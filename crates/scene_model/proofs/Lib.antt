@@ -1,5 +1,5 @@
 pub mod Accepted
-pub mod AcceptedOrTold
+pub mod AcceptedOrReportable
 pub mod Bounds
 pub mod Chosen
 pub mod Counting
@@ -17,7 +17,7 @@ pub mod Searching
 pub mod Sound
 pub mod StatedLimits
 pub mod Times
-pub mod ToldCycles
+pub mod ReportableCycles
 pub mod WaitBounds
 pub mod Walks
 pub mod Wanted

@@ -11,7 +11,7 @@ use Rattle.scene_model.specs.Waits.{waits, stated, stated_limits, block_wait, ro
 use Rattle.scene_model.specs.WellFormed.{IsWellFormed}
 use Rattle.scene_model.specs.WorkedScenes.{slow_receiver}
 use Rattle.scene_model.specs.WorkedWaits.{latency_of_a_tick, two_ways}
-use Rattle.scene_model.proofs.WorkedCycles.{covered_by, told_two}
+use Rattle.scene_model.proofs.WorkedCycles.{covered_by, uncovered_pair}
 
 -- ---- a receiver whose tick is ten of the sender's
 
@@ -41,7 +41,7 @@ two_ways-fewer : (m : ℕ) → 1 ≤ m → m < 4 → HasUncovered (waits (two_wa
 unfolding allowance latency delay tick sender receiver gcd floor_to block_wait room_wait
 two_ways-fewer m low high = (
   room_wait (two_ways None) 1 m ∷ block_wait (two_ways None) 0 ∷ [],
-  (told_two (waits (two_ways None) (Some 1 ∷ Some m ∷ [])) (room_wait (two_ways None) 1 m) (block_wait (two_ways None) 0) refl refl (omega arith) (3, omega arith, refl) (0, omega arith, refl) (omega (arith, ints))).uncovered,
+  (uncovered_pair (waits (two_ways None) (Some 1 ∷ Some m ∷ [])) (room_wait (two_ways None) 1 m) (block_wait (two_ways None) 0) refl refl (omega arith) (3, omega arith, refl) (0, omega arith, refl) (omega (arith, ints))).uncovered,
 )
 
 two_ways-limit : (c : ℕ) → c < 2 → IsLimit (two_ways None) (1 ∷ 4 ∷ []) c (stated (two_ways None) c)

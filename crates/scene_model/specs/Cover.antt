@@ -52,7 +52,7 @@ pub record IsUncovered (all cycle : List Wait) : Type 0 where
 abbrev pub HasUncovered : List Wait → Type 0
 HasUncovered all = (cycle : List Wait) × IsUncovered all cycle
 
--- ---- the cycle that is told
+-- ---- the cycle that is reported
 
 -- how many of the waits have this waiter
 abbrev pub waits_by : ℕ → List Wait → ℕ
@@ -67,8 +67,9 @@ abbrev pub StartsLeast : List Wait → Type 0
 StartsLeast [] = ⊥
 StartsLeast (w ∷ ws) = All (λ (v : Wait). w.waiter ≤ v.waiter) ws
 
--- a cycle that is not covered, in which no application waits twice and the first waiter has the least place
-pub record IsTold (all cycle : List Wait) : Type 0 where
+-- a cycle by which waits can be refused: it is not covered, no application waits twice in it, and its first waiter has the
+-- least place
+pub record IsReportable (all cycle : List Wait) : Type 0 where
   pub uncovered : IsUncovered all cycle
   pub once : WaitsOnce cycle
   pub least : StartsLeast cycle

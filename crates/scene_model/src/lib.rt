@@ -22,7 +22,8 @@ mod wait;
 mod worked_orders;
 
 pub use accepted_laws::{
-    accepted_scenes_are_not_told, faultless_accepted_scenes_are_live, scenes_are_accepted_or_told,
+    accepted_scenes_are_not_refused, faultless_accepted_scenes_are_live,
+    scenes_are_accepted_or_refused,
 };
 pub use act::Act;
 pub use clocks::{allowance_of, wanted_blocks};

@@ -1,6 +1,6 @@
 //! Laws over limits and orders of scenes that can be followed by hand.
 ghost use Rattle.std.specs.Prelude.{[], ◌∷◌, pos, None, Some};
-ghost use Rattle.scene_model.specs.Cover.{IsTold};
+ghost use Rattle.scene_model.specs.Cover.{IsReportable};
 ghost use Rattle.scene_model.specs.Orders.{AllFinished, IsLawful, after_all, opening_counts};
 ghost use Rattle.scene_model.specs.Waits.{AreLimits, Fits, IsAccepted, stated_waits};
 ghost use Rattle.scene_model.specs.WellFormed.{IsWellFormed};
@@ -36,12 +36,12 @@ pub fn worked_limits_hold()
 /// Cycles that are not covered. The latencies of a loop of connections, rounded down to what both ticks are multiples of,
 /// come to no more than its burdens, or a connection keeps one block too few.
 pub fn worked_cycles_hold()
-    ensures no_latency { IsTold (stated_waits no_latency) (for_each_other no_latency) }
-    ensures short_latency { IsTold (stated_waits short_latency) (for_each_other short_latency) }
-    ensures uneven_ticks { IsTold (stated_waits uneven_ticks) (for_each_other uneven_ticks) }
-    ensures to_itself { IsTold (stated_waits to_itself) (for_itself to_itself) }
+    ensures no_latency { IsReportable (stated_waits no_latency) (for_each_other no_latency) }
+    ensures short_latency { IsReportable (stated_waits short_latency) (for_each_other short_latency) }
+    ensures uneven_ticks { IsReportable (stated_waits uneven_ticks) (for_each_other uneven_ticks) }
+    ensures to_itself { IsReportable (stated_waits to_itself) (for_itself to_itself) }
     // With room for three blocks, gen waits for room until sink has run, and sink for a block that gen has not made.
-    ensures little_room { IsTold (stated_waits little_room) (for_room_and_block little_room) }
+    ensures little_room { IsReportable (stated_waits little_room) (for_room_and_block little_room) }
 {}
 
 /// The same loops with a little more latency are accepted.

@@ -9,11 +9,11 @@ use Rattle.std.proofs.Math.ListN.{drop_of_length-le}
 use Rattle.std.specs.List.{All, Contains}
 use Rattle.std.specs.Prelude.{slice_index, map, replicate}
 use Rattle.std.specs.declared.alloc.Global.{Global}
-use Rattle.scene_model.specs.Cover.{AllCovered, IsUncovered, WaitsOnce, IsTold, Passes, potential, IsWithin}
+use Rattle.scene_model.specs.Cover.{AllCovered, IsUncovered, WaitsOnce, IsReportable, Passes, potential, IsWithin}
 use Rattle.scene_model.specs.Limits.{most_apps}
 use Rattle.scene_model.specs.declared.wait.Wait.{Wait}
 use Rattle.scene_model.specs.declared.wait.WaitKind.TheVariants.{ForBlock}
-use Rattle.scene_model.proofs.Cycles.{IsTold-turned, covered_or_not}
+use Rattle.scene_model.proofs.Cycles.{IsReportable-turned, covered_or_not}
 use Rattle.tick_plan.specs.Bounds.{greatest_rise, greatest_start, greatest_height}
 use Rattle.tick_plan.specs.Plans.{IsPotential}
 use Rattle.tick_plan.specs.Heights.{rise_of, GivesHeight, HaveWalks, IsRising, at_zero, walk_at, AreGiven, IsRelaxed, gap_of}
@@ -255,8 +255,8 @@ found_cycle n all heights walks e height last whole d within h in'' in' is highe
     rw (items, add-one) (cut-uncovered n all at_zero (slice_index heights) e ws last d within (h.given e.awaited in''.awaited) in' lt' back' up)
 
 pub found_told : (all cycle result : List Wait) → IsUncovered all cycle × WaitsOnce cycle →
-    (k : ℕ) × (k < length cycle) × ((d : Wait) → All (λ w. (get_or cycle k d).waiter ≤ w.waiter) cycle) × (result ≡ drop k cycle ++ take k cycle) → IsTold all result
-found_told all cycle result h (k, lt, least, is) = rw is (IsTold-turned all cycle k no_wait lt h.0 h.1 (least no_wait))
+    (k : ℕ) × (k < length cycle) × ((d : Wait) → All (λ w. (get_or cycle k d).waiter ≤ w.waiter) cycle) × (result ≡ drop k cycle ++ take k cycle) → IsReportable all result
+found_told all cycle result h (k, lt, least, is) = rw is (IsReportable-turned all cycle k no_wait lt h.0 h.1 (least no_wait))
 
 -- ---- the start and the end of a search
 

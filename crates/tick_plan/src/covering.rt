@@ -2,7 +2,7 @@ ghost use Rattle.std.specs.Prelude.{◌≡◌, length, map, Some, All, IfOk, IfE
 ghost use Rattle.scene_model.specs.Cover.{AllCovered, Passes};
 ghost use Rattle.scene_model.specs.Faults.{IsFaultless};
 ghost use Rattle.scene_model.specs.Waits.{IsLawfulLimit, waits};
-ghost use Rattle.tick_plan.specs.Faults.{TellsUncovered};
+ghost use Rattle.tick_plan.specs.Faults.{ReportsUncovered};
 ghost use Rattle.tick_plan.specs.Plans.{IsPotential};
 
 use crate::fault::NegotiateFault;
@@ -28,7 +28,7 @@ pub fn cover(
     ensures near { IfOk result (λ p. All IsPotential p.items) }
     ensures passed { IfOk result (λ p. All (Passes (length scene.now.apps) p.items) (waits scene.now limits.now)) }
     ensures covered { IfOk result (λ _. AllCovered (waits scene.now limits.now)) }
-    ensures uncovered { IfErr result (TellsUncovered (waits scene.now limits.now)) }
+    ensures uncovered { IfErr result (ReportsUncovered (waits scene.now limits.now)) }
 {
     let waits = waits(alloc, scene, limits)?;
     cover_waits(alloc, scene.apps.len() as u32, &waits)

@@ -4,7 +4,7 @@ ghost use Rattle.scene_model.specs.Cover.{AllCovered, IsWithin};
 ghost use Rattle.scene_model.specs.Faults.{IsFaultless};
 ghost use Rattle.scene_model.specs.Waits.{AreLimits, IsAccepted, IsLawfulLimit, stated_limits, waits};
 ghost use Rattle.tick_plan.specs.Choices.{HasChosenBelow};
-ghost use Rattle.tick_plan.specs.Faults.{TellsUncovered};
+ghost use Rattle.tick_plan.specs.Faults.{ReportsUncovered};
 ghost use Rattle.tick_plan.specs.Plans.{PlanFits};
 
 use crate::choosing::limits_in_turn;
@@ -79,7 +79,7 @@ pub fn negotiate(alloc: Global, scene: &Scene) -> Result<Plan, NegotiateFault>
     ensures stated { IfOk result (λ plan. plan.stated.items ≡ map is_some (stated_limits scene.now)) }
     ensures fits { IfOk result (PlanFits scene.now) }
     ensures accepted { IfOk result (λ _. IsAccepted scene.now) }
-    ensures uncovered { IfErr result (TellsUncovered (waits scene.now (stated_limits scene.now))) }
+    ensures uncovered { IfErr result (ReportsUncovered (waits scene.now (stated_limits scene.now))) }
 {
     let stated = stated_limits(alloc, scene)?;
     let mut waits = waits(alloc, scene, &stated)?;

@@ -1,7 +1,7 @@
 ghost use Rattle.std.specs.Prelude.{◌≡◌, ◌≤◌, length, All, IfOk, IfErr};
 ghost use Rattle.scene_model.specs.Cover.{IsWithin, Passes, AllCovered};
 ghost use Rattle.scene_model.specs.Limits.{most_apps};
-ghost use Rattle.tick_plan.specs.Faults.{TellsUncovered};
+ghost use Rattle.tick_plan.specs.Faults.{ReportsUncovered};
 ghost use Rattle.tick_plan.specs.Plans.{IsPotential};
 
 use crate::fault::NegotiateFault;
@@ -25,7 +25,7 @@ pub(crate) fn cover_waits(
     ensures near { IfOk result (λ p. All IsPotential p.items) }
     ensures passed { IfOk result (λ p. All (Passes applications p.items) waits.now) }
     ensures covered { IfOk result (λ _. AllCovered waits.now) }
-    ensures uncovered { IfErr result (TellsUncovered waits.now) }
+    ensures uncovered { IfErr result (ReportsUncovered waits.now) }
 {
     let mut search = start(alloc, applications)?;
     relax_all(alloc, applications, waits, &mut search)?;

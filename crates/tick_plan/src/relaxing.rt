@@ -3,7 +3,7 @@ ghost use Rattle.std.specs.Bool.{OnTrue, OnFalse};
 ghost use Rattle.scene_model.specs.Cover.{IsWithin};
 ghost use Rattle.scene_model.specs.Limits.{most_apps};
 ghost use Rattle.scene_model.specs.declared.wait.Wait.{Wait};
-ghost use Rattle.tick_plan.specs.Faults.{TellsUncovered};
+ghost use Rattle.tick_plan.specs.Faults.{ReportsUncovered};
 ghost use Rattle.tick_plan.specs.Heights.{IsSearch, IsRelaxed, gap_of};
 
 use crate::fault::NegotiateFault;
@@ -31,7 +31,7 @@ fn relax(
     ensures relaxed { IfOk result (λ raised. OnFalse raised ((d : Wait) → IsRelaxed applications search.old.heights.items (slice_index_or waits.now at d))) }
     ensures same { IfOk result (λ raised. OnFalse raised (search.new.heights.items ≡ search.old.heights.items)) }
     ensures raised { IfOk result (λ raised. OnTrue raised (gap_of search.new.heights.items < gap_of search.old.heights.items)) }
-    ensures uncovered { IfErr result (TellsUncovered waits.now) }
+    ensures uncovered { IfErr result (ReportsUncovered waits.now) }
 {
     let wait = waits[at];
     let waiter = wait.waiter.0 as usize;
@@ -62,7 +62,7 @@ fn relax_each(
     ensures search { IfOk result (λ _. IsSearch applications waits.now search.new) }
     ensures relaxed { IfOk result (λ raised. OnFalse raised (All (IsRelaxed applications search.new.heights.items) waits.now)) }
     ensures raised { IfOk result (λ raised. OnTrue raised (gap_of search.new.heights.items < gap_of search.old.heights.items)) }
-    ensures uncovered { IfErr result (TellsUncovered waits.now) }
+    ensures uncovered { IfErr result (ReportsUncovered waits.now) }
 {
     let mut raised = false;
     for at in 0..waits.len() {
@@ -85,7 +85,7 @@ pub(crate) fn relax_all(
     requires search { IsSearch applications waits.now search.old }
     ensures search { IfOk result (λ _. IsSearch applications waits.now search.new) }
     ensures relaxed { IfOk result (λ _. All (IsRelaxed applications search.new.heights.items) waits.now) }
-    ensures uncovered { IfErr result (TellsUncovered waits.now) }
+    ensures uncovered { IfErr result (ReportsUncovered waits.now) }
 {
     while relax_each(alloc, applications, waits, search)? {}
     Ok(())

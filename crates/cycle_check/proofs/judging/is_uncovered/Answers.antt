@@ -6,7 +6,7 @@ use Rattle.cycle_check.proofs.judging.is_uncovered.Goals as goal
 
 pub returns-then-not-are_among : goal.returns-then-not-are_among
 returns-then-not-are_among c =
-    rw (← c.as_slice-cycle.ensures.value) (λ no. absurd (false≢true no), λ told. c.if-not-are_among.ensures.1 told.cycle_of.among)
+    rw (← c.as_slice-cycle.ensures.value) (λ no. absurd (false≢true no), λ found. c.if-not-are_among.ensures.1 found.cycle_of.among)
 
 pub returns : goal.returns
 returns c =

@@ -1,4 +1,4 @@
--- Where some waits have a cycle that is not covered, they have one that is told: no application waits twice in it, and
+-- Where some waits have a cycle that is not covered, they have one that can be reported: no application waits twice in it, and
 -- its first waiter has the least place.
 use Rattle.std.proofs.Common.{◌≡◌, ℕ, suc, zero, ◌<◌, ◌≤◌, ◌⊎◌, inl, inr, refl, ap, subst, eqb, arith, List, [], ◌∷◌, ◌++◌, length, length-append, take, drop, get_or, ℤ, ◌+ℤ◌, ◌≤ℤ◌, ◌<ℤ◌}
 use Rattle.std.specs.Prelude.{All, Contains}
@@ -8,9 +8,9 @@ use Rattle.std.proofs.lemmas.Bool.Decides.{nat_tests}
 use Rattle.std.proofs.lemmas.Int.{ints, by_lt_z}
 use Rattle.std.proofs.lemmas.List.Elements.{All-append, All-cons, All-nil, All-weaker}
 use Rattle.scene_model.specs.declared.wait.Wait.{Wait}
-use Rattle.scene_model.specs.Cover.{IsWalk, IsCycle, AreAmong, sum_of, allowances, burdens, IsUncovered, HasUncovered, WaitsOnce, IsTold}
+use Rattle.scene_model.specs.Cover.{IsWalk, IsCycle, AreAmong, sum_of, allowances, burdens, IsUncovered, HasUncovered, WaitsOnce, IsReportable}
 use Rattle.scene_model.proofs.Walks.{IsWalk-append, count_at, count_at-cons, cycle_from_walk, left-come, one_if, sum_of-append, walk_from_cycle}
-use Rattle.scene_model.proofs.Cycles.{IsTold-turned}
+use Rattle.scene_model.proofs.Cycles.{IsReportable-turned}
 use Rattle.scene_model.proofs.LeastWalks.{All-split}
 use Rattle.scene_model.proofs.Rounds.{Differ, GoesRound, awaited_by, round_or_differ}
 
@@ -134,16 +134,16 @@ least_place d w (v ∷ vs) = go (least_place d v vs)
         choose (inl less) = (suc k, (omega (arith, lt), All-cons (λ u. (get_or (v ∷ vs) k d).waiter ≤ u.waiter) w (v ∷ vs) (omega (arith, less)) least))
         choose (inr le) = (0, (omega arith, All-cons (λ u. w.waiter ≤ u.waiter) w (v ∷ vs) (omega arith) (All-weaker (λ u. (get_or (v ∷ vs) k d).waiter ≤ u.waiter) (λ u. w.waiter ≤ u.waiter) (λ u h. omega (arith, h, le)) (v ∷ vs) least)))
 
--- ---- the cycle that is told
+-- ---- the cycle that is reported
 
-abbrev pub HasTold : List Wait → Type 0
-HasTold all = (cycle : List Wait) × IsTold all cycle
+abbrev pub HasReportable : List Wait → Type 0
+HasReportable all = (cycle : List Wait) × IsReportable all cycle
 
-told_from_once : (all : List Wait) → HasUncoveredOnce all → HasTold all
-told_from_once all ([], is, once) = absurd is.cycle_of.closed
-told_from_once all (w ∷ ws, is, once) =
+reportable_from_once : (all : List Wait) → HasUncoveredOnce all → HasReportable all
+reportable_from_once all ([], is, once) = absurd is.cycle_of.closed
+reportable_from_once all (w ∷ ws, is, once) =
     let place = least_place w w ws in
-    (drop place.0 (w ∷ ws) ++ take place.0 (w ∷ ws), IsTold-turned all (w ∷ ws) place.0 w place.1.0 is once place.1.1)
+    (drop place.0 (w ∷ ws) ++ take place.0 (w ∷ ws), IsReportable-turned all (w ∷ ws) place.0 w place.1.0 is once place.1.1)
 
-pub uncovered_has_told : (all : List Wait) → HasUncovered all → HasTold all
-uncovered_has_told all has = told_from_once all (has_uncovered_once all has)
+pub uncovered_has_reportable : (all : List Wait) → HasUncovered all → HasReportable all
+uncovered_has_reportable all has = reportable_from_once all (has_uncovered_once all has)
