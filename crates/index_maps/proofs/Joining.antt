@@ -1,11 +1,11 @@
 -- Intervals in the order of their first indices, joined where they touch.
-use Rattle.std.proofs.Common.{◌≡◌, ℕ, suc, ◌<◌, ◌≤◌, Bool, true, false, List, [], ◌∷◌, ◌++◌, length, drop, get_or, refl, ap, ◌∙◌, inl, inr, arith, max}
+use Rattle.std.proofs.Common.{◌≡◌, ℕ, suc, ◌+◌, ◌<◌, ◌≤◌, Bool, true, false, List, [], ◌∷◌, ◌++◌, length, drop, get_or, refl, ap, ◌∙◌, inl, inr, arith, append_assoc, max}
 use Rattle.std.specs.Prelude.{⊤, nat_le, nat_lt, ◌&&◌, ◌||◌, if◌then◌else◌}
 use Rattle.std.specs.List.{list_any, list_all}
 use Rattle.std.specs.List.Sorted.{IsNonDecreasingBy}
 use Rattle.std.proofs.lemmas.Bool.{cases_lt, and_parts, lt-ltb, lt-leb, le-leb, ltb-true}
 use Rattle.std.proofs.lemmas.Bool.Decides.{nat_tests}
-use Rattle.std.proofs.lemmas.List.{drop_all}
+use Rattle.std.proofs.lemmas.List.{drop_all, drop_more}
 use Rattle.index_maps.specs.Intervals.{holds, is_some_interval, begins_above, are_apart}
 use Rattle.index_maps.specs.declared.interval.Interval.{Interval}
 
@@ -84,6 +84,20 @@ are_apart-join growing (span ∷ spans) some ordered = elim (cases_lt growing.af
       let more : growing.first < max growing.after span.after = omega arith in
       rw (le-leb span.first growing.after touch) (are_apart-join (longer growing span) spans more (in_order_lower span.first growing.first spans from ordered.2))
 ]
+
+-- ---- in steps
+
+-- the interval at place i touches the growing one
+pub join_extends : (done : List Interval) (growing : Interval) (i : ℕ) (others all : List Interval) (d : Interval) → i < length others → (get_or others i d).first ≤ growing.after
+    → done ++ join growing (drop i others) ≡ all → done ++ join (longer growing (get_or others i d)) (drop (i + 1) others) ≡ all
+join_extends done growing i others all d lt touch so_far = rw (drop_more others i d lt, le-leb (get_or others i d).first growing.after touch) at so_far
+
+-- or it does not
+pub join_starts : (done : List Interval) (growing : Interval) (i : ℕ) (others all : List Interval) (d : Interval) → i < length others → growing.after < (get_or others i d).first
+    → done ++ join growing (drop i others) ≡ all → (done ++ growing ∷ []) ++ join (get_or others i d) (drop (i + 1) others) ≡ all
+join_starts done growing i others all d lt apart so_far =
+    append_assoc done (growing ∷ []) (join (get_or others i d) (drop (i + 1) others))
+    ∙ (rw (drop_more others i d lt, lt-leb (get_or others i d).first growing.after apart) at so_far)
 
 -- ---- at the end
 

@@ -93,5 +93,8 @@ least-some spans f ordered is =
 pub least_found : (spans : List Interval) (i reach : ℕ) (d : Interval) → i < length spans → (get_or spans i d).first < reach → least_behind reach (drop i spans) ≡ least_behind 0 spans → least_behind 0 spans ≡ Some (get_or spans i d).first
 least_found spans i reach d lt shared so_far = sym so_far ∙ rw (drop_more spans i d lt, lt-ltb (get_or spans i d).first reach shared) refl
 
+pub least_goes_on : (spans : List Interval) (i reach : ℕ) (d : Interval) → i < length spans → reach ≤ (get_or spans i d).first → least_behind reach (drop i spans) ≡ least_behind 0 spans → least_behind (get_or spans i d).after (drop (i + 1) spans) ≡ least_behind 0 spans
+least_goes_on spans i reach d lt apart so_far = rw (drop_more spans i d lt, le-ltb (get_or spans i d).first reach apart) at so_far
+
 pub least_at_end : (spans : List Interval) (i reach : ℕ) → length spans ≤ i → least_behind reach (drop i spans) ≡ least_behind 0 spans → least_behind 0 spans ≡ None
 least_at_end spans i reach ge so_far = sym (rw (drop_all i spans ge) at so_far)

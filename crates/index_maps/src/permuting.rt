@@ -30,7 +30,6 @@ impl From<NoMemory> for MapFault {
 /// A list of at most so many entries is searched by comparing each two of them.
 const SHORT: usize = 64;
 
-#[tactic(auto, using(crate::proofs::Repeats::rest_at_start, crate::proofs::Repeats::rest_at_end, crate::proofs::Repeats::repeat_found, crate::proofs::Repeats::rest_goes_on))]
 fn repeat_by_pairs(list: &[u32]) -> Option<u32>
     ensures { result ≡ first_repeat list.now }
 {

@@ -1,5 +1,5 @@
 use Rattle.index_maps.proofs.Joining.{are_in_order}
-use Rattle.index_maps.proofs.Sharing.{least-none, least-some, least_found, least_at_end}
+use Rattle.index_maps.proofs.Sharing.{least-none, least-some, least_found, least_goes_on, least_at_end}
 use Rattle.index_maps.proofs.interval.least_shared.Goals as goal
 
 pub returns-then-span-reach-clause-shared : goal.returns-then-span-reach-clause-shared
@@ -16,3 +16,6 @@ pub returns-clause-none : goal.returns-clause-none
 returns-clause-none c = λ _ g.
     least-none c.args.spans.now (are_in_order c.args.spans.now c.requires.some c.requires.ascend)
     (least_at_end c.args.spans.now c.loop-span.span-index c.loop-span.reach c.loop-span-test.false c.loop-span.invariant) g
+
+pub loop-span-preserved : goal.loop-span-preserved
+loop-span-preserved c = least_goes_on c.args.spans.now c.loop-span.span-index c.loop-span.reach _ c.loop-span-test.true c.if-span-reach.false c.loop-span.invariant
