@@ -1,7 +1,24 @@
-use Rattle.std.proofs.Common.{◌≡◌, take}
+use Rattle.std.proofs.Common.{◌≡◌, take, codes}
 use Rattle.std.proofs.lemmas.List.{take_all}
-use Rattle.cycle_check.specs.CycleTexts.{cycle_text}
+use Rattle.cycle_check.specs.CycleTexts.{cycle_text, ended, wait_line}
+use Rattle.cycle_check.proofs.JoinedLines.{one_line_more}
 use Rattle.cycle_check.proofs.texts.write_cycle.Goals as goal
+
+pub push_wait-requires : goal.push_wait-requires
+push_wait-requires c =
+    rw (c.wait-item.is, c.as_slice-waits.ensures.value)
+    (c.requires.between c.loop-wait.wait-index c.wait-item.result (rw c.as_slice-waits.ensures.value at c.loop-wait-test.true))
+
+pub loop-wait-preserved : goal.loop-wait-preserved
+loop-wait-preserved c =
+    rw (c.in_ok-push_wait.ensures, c.loop-wait.invariant)
+    (one_line_more (wait_line c.args.scene.now) (ended (codes "uncovered cycle")) c.as_slice-waits.result.now c.loop-wait.wait-index c.wait-item.result c.loop-wait-test.true c.wait-item.is)
+
+pub push_sums-requires-clause-bounded : goal.push_sums-requires-clause-bounded
+push_sums-requires-clause-bounded c = rw c.as_slice-waits.ensures.value c.requires.bounded
+
+pub push_sums-requires-clause-short : goal.push_sums-requires-clause-short
+push_sums-requires-clause-short c = rw c.as_slice-waits.ensures.value c.requires.short
 
 pub returns : goal.returns
 unfolding cycle_text
