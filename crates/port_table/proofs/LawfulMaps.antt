@@ -18,14 +18,14 @@ use Rattle.index_maps.proofs.Splits.{split_at_rises, split_at_ends}
 use Rattle.music_base.specs.Counts.{count_up_to}
 use Rattle.text_words.specs.Options.{each, first_some}
 use Rattle.text_words.specs.Parts.{is_byte, parts}
-use Rattle.text_words.proofs.Options.{IfSome-after, IfSome-bind, IfSome-each, IfSome-if, IfSome-map, IfSome-or, IfSome-when, count_up_to-is, length-each}
+use Rattle.text_words.proofs.Options.{IfSome-after, IfSome-each, IfSome-if, IfSome-map, IfSome-or, IfSome-when, count_up_to-is, length-each}
 use Rattle.scene_model.specs.Limits.{greatest_index}
 use Rattle.scene_model.specs.Ports.{HasMessageMap, has_indices}
 use Rattle.scene_model.specs.declared.port.Direction.{Direction}
 use Rattle.scene_model.specs.declared.port.Direction.TheVariants.{Output, Input}
 use Rattle.scene_model.specs.declared.port.PortKind.TheVariants.{Messages}
 use Rattle.music_base.specs.Times.{plus}
-use Rattle.port_table.specs.MapWords.{behind, comma, index_list, map_in, map_repeat, message_map, one_index, rank_map, rank_maps, rank_repeat, slash, span_in, split_map}
+use Rattle.port_table.specs.MapWords.{behind, comma, index_list, map_in, map_repeat, message_map, one_index, rank_map, rank_maps, rank_repeat, slash, span_in, split_map, split_span}
 
 -- ---- consecutive indices
 
@@ -105,11 +105,12 @@ rank_maps_are np word = IfSome-if (λ maps. IsSpelled np (Each maps)) (each rank
     IfSome-map-id None many as_many within = tt
     IfSome-map-id (Some ms) many as_many within = record { ranks = as_many ∙ many; within = within }
 
+split_span_is : (word : List ℕ) → IfSome (split_span word) IsSpanWithin
+unfolding split_span
+split_span_is word = IfSome-after IsSpanWithin span_in (behind (codes "split:") word) span_is
+
 split_is : (np : ℕ) (word : List ℕ) → IfSome (split_map np word) (IsSpelled np)
-unfolding split_map
-split_is np word =
-    IfSome-after (IsSpelled np) _ (behind (codes "split:") word) (λ text.
-    IfSome-bind IsSpanWithin (IsSpelled np) _ (span_in text) (span_is text) (λ span small. record { ranks = refl; within = small }))
+split_is np word = IfSome-map IsSpanWithin (IsSpelled np) (λ span. Split span np) (split_span word) (split_span_is word) (λ span small. record { ranks = refl; within = small })
 
 pub map_in-is : (np : ℕ) (word : List ℕ) → IfSome (map_in np word) (IsSpelled np)
 unfolding map_in

@@ -1,5 +1,5 @@
 -- A map, which is one word.
-use Rattle.std.specs.Prelude.{ℕ, ◌+◌, ◌-◌, ◌==◌, nat_le, if◌then◌else◌, List, ◌∷◌, length, replicate, drop, take, codes, bytes_eq, Option, Some, None, option_map}
+use Rattle.std.specs.Prelude.{ℕ, ◌+◌, ◌-◌, ◌==◌, nat_le, if◌then◌else◌, List, ◌∷◌, length, replicate, drop, take, codes, bytes_eq, Option, None, option_map}
 use Rattle.std.specs.List.{list_any, before_first, after_first}
 use Rattle.std.specs.Option.{option_or}
 use Rattle.music_base.specs.Times.{plus}
@@ -51,12 +51,13 @@ rank_maps np word = if length (parts slash word) == np then each rank_map (parts
 abbrev pub behind : List ℕ → List ℕ → Option (List ℕ)
 behind front text = drop (length front) text when bytes_eq (take (length front) text) front
 
--- split:B+N
-unfoldable pub split_map : ℕ → List ℕ → Option PortMap
-split_map np word = do
-  text ← behind (codes "split:") word
-  span ← span_in text
-  Some (Split span np)
+-- split:B+N: the span that is split
+unfoldable pub split_span : List ℕ → Option Extent
+split_span word = behind (codes "split:") word >>= span_in
+
+-- the same for np ranks
+abbrev pub split_map : ℕ → List ℕ → Option PortMap
+split_map np word = option_map (λ span. Split span np) (split_span word)
 
 -- the map of a port of np ranks
 unfoldable pub map_in : ℕ → List ℕ → Option PortMap

@@ -81,7 +81,7 @@ pub fn read_map(alloc: Global, np: u32, word: &[u8]) -> Result<PortMap, MapFault
     ensures once { IfOk result (λ map. map_repeat map ≡ None) }
     ensures fault { IfErr result (IsRepeatOf (map_repeat_in (map_in np word.now))) }
 {
-    if let Some(span) = split_span(np, word) {
+    if let Some(span) = split_span(word) {
         return Ok(PortMap::Split { span, ranks: np });
     }
     let maps = read_rank_maps(alloc, word)?;

@@ -3,8 +3,7 @@ ghost use Rattle.std.specs.Prelude.{◌≡◌, ◌==◌, ◌≤◌, ◌<◌, ◌
 ghost use Rattle.std.specs.List.{count_by, list_any};
 ghost use Rattle.text_words.specs.Options.{each};
 ghost use Rattle.text_words.specs.Parts.{is_byte, parts};
-ghost use Rattle.index_maps.specs.declared.map.PortMap.TheVariants.{Split};
-ghost use Rattle.port_table.specs.MapWords.{behind, index_list, map_in, rank_map, rank_maps, slash, span_in, split_map};
+ghost use Rattle.port_table.specs.MapWords.{behind, index_list, map_in, rank_map, rank_maps, slash, span_in, split_span};
 
 use index_maps::{INDEX_LIMIT, Span};
 use text_words::{around, count_up_to, cut_at};
@@ -103,9 +102,9 @@ fn is_rank_maps(np: u32, word: &[u8]) -> bool
 }
 
 /// split:B+N.
-#[tactic(auto, unfolding(crate::specs::MapWords::split_map))]
-pub fn split_span(np: u32, word: &[u8]) -> Option<Span>
-    ensures { option_map (λ span. Split span np) result ≡ split_map np word.now }
+#[tactic(auto, unfolding(crate::specs::MapWords::split_span))]
+pub fn split_span(word: &[u8]) -> Option<Span>
+    ensures { result ≡ split_span word.now }
 {
     let text = behind(b"split:", word)?;
     span_in(text)
@@ -117,5 +116,5 @@ pub fn is_map(np: u32, word: &[u8]) -> bool
     requires { 1 ≤ np }
     ensures { result ≡ is_some (map_in np word.now) }
 {
-    split_span(np, word).is_some() || is_rank_maps(np, word)
+    split_span(word).is_some() || is_rank_maps(np, word)
 }
