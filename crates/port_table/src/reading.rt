@@ -97,12 +97,20 @@ fn port_with(name: Name, map: PortMap, parts: &PortParts<'_>) -> PortDecl
     }
 }
 
+/// The place of a declaration behind these, from 1.
+fn place_after(before: &[PortDecl]) -> u32
+    requires { length before.now ≤ most_ports }
+    ensures { result ≡ length before.now + 1 }
+{
+    before.len() as u32 + 1
+}
+
 /// The port that a declaration gives beside the ports before it.
-#[tactic(auto, unfolding(crate::specs::Ports::port_beside, crate::specs::Ports::fault_beside), using(crate::proofs::Faults::unless_fault))]
+#[tactic(auto, unfolding(crate::specs::Ports::port_beside, crate::specs::Ports::fault_beside))]
 fn read_port(
     alloc: Global,
     np: u32,
-    before: &Items<PortDecl>,
+    before: &[PortDecl],
     piece: &[u8],
 ) -> Result<PortDecl, PortFault>
     requires ranks { 1 ≤ np }
@@ -111,11 +119,11 @@ fn read_port(
     ensures port { IfOk result (λ port. port_beside np before.now (words piece.now) ≡ Ok port) }
     ensures fault { IfErr result (IsFaultOf (port_beside np before.now (words piece.now))) }
 {
-    let place = before.len() as u32 + 1;
+    let place = place_after(before);
     let Some(parts) = port_in(np, piece) else {
         return Err(PortFault::PortText { place });
     };
-    if is_beyond(before.as_slice(), parts.name) {
+    if is_beyond(before, parts.name) {
         return Err(PortFault::PortText { place });
     }
     let map = faultless_map(alloc, np, place, &parts)?;
@@ -145,7 +153,7 @@ pub fn read_ports(alloc: Global, text: &Word, np: u32) -> Result<Items<PortDecl>
     let mut rest = text.as_slice();
     while let Some((piece, others)) = split_declaration(rest) {
         rest = others;
-        let port = read_port(alloc, np, &ports, piece)?;
+        let port = read_port(alloc, np, ports.as_slice(), piece)?;
         ports.push(port)?;
     }
     Ok(ports)

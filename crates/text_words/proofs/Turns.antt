@@ -70,6 +70,11 @@ module _ {A B E : Type 0} (read : List B → A → Result B E) where
   abbrev Gave : List B → Result (List B) E
   Gave ys = Ok ys
 
+  -- with one more that is read, the rest is read as all was
+  pub in_turn-next : (before : List B) (x : A) (y : B) (left xs : List A) (all : Result (List B) E) → left ≡ x ∷ xs → read before x ≡ Ok y
+      → in_turn read before left ≡ all → in_turn read (before ++ y ∷ []) xs ≡ all
+  in_turn-next before x y left xs all parts gave reads = rw (parts, gave) at reads
+
   module _ (holds : List B → Type 0) (kept : (before : List B) (x : A) (y : B) → holds before → read before x ≡ Ok y → holds (before ++ y ∷ [])) where
     -- the next one is read
     next : (before ys : List B) (x : A) (xs : List A) (r : Result B E) → holds before → read before x ≡ r
