@@ -3,13 +3,14 @@ ghost use Rattle.std.specs.Prelude.{◌≡◌, ◌≤◌, ◌<◌, ℕ, true, le
 ghost use Rattle.std.specs.List.{list_any};
 ghost use Rattle.scene_model.specs.Limits.{most_apps, most_ports};
 ghost use Rattle.scene_model.specs.Links.{app_of, has_end, has_ends, input_of, output_of, port_of, same_ends, same_input};
-ghost use Rattle.port_match.specs.Links.{app_place, ends_of, port_place};
+ghost use Rattle.port_match.specs.Links.{app_place, ends_of, is_fed_by, port_place};
 
 use crate::LinkKind;
 use config_text::LinkText;
 use music_base::{AppId, Name, PortId};
-use scene_model::{AppDecl, Link, PortDecl};
+use scene_model::{AppDecl, Link, PortDecl, PortKind};
 
+/// The place of the application of this name.
 fn app_place(apps: &[AppDecl], name: &Name) -> Option<usize>
     ensures place { result ≡ app_place apps.now name.now }
     ensures stands { IfSome result (λ a. a < length apps.now) }
@@ -18,6 +19,7 @@ fn app_place(apps: &[AppDecl], name: &Name) -> Option<usize>
     apps.iter().position(|app| app.name.as_slice() == name)
 }
 
+/// The place of the port of this name.
 fn port_place(app: &AppDecl, name: &Name) -> Option<usize>
     ensures place { result ≡ port_place app.now name.now }
     ensures stands { IfSome result (λ p. p < length app.now.ports) }
@@ -114,8 +116,18 @@ pub fn is_joined(before: &[Link], link: &Link) -> bool
 }
 
 /// Whether an earlier link leads to the same port.
-pub fn is_fed(before: &[Link], link: &Link) -> bool
+fn is_fed(before: &[Link], link: &Link) -> bool
     ensures { result ≡ list_any (same_input link.now) before.now }
 {
     before.iter().any(|other| same_input(link, other))
+}
+
+/// Whether an earlier link leads to the same port, where that one takes values.
+pub fn is_fed_by(kind: PortKind, before: &[Link], link: &Link) -> bool
+    ensures { result ≡ is_fed_by kind before.now link.now }
+{
+    match kind {
+        PortKind::Values => is_fed(before, link),
+        PortKind::Events | PortKind::Messages => false,
+    }
 }

@@ -4,12 +4,12 @@ ghost use Rattle.scene_model.specs.Limits.{most_apps, most_links, most_ports};
 ghost use Rattle.scene_model.specs.Links.{app_of, has_ends};
 ghost use Rattle.port_match.specs.Links.{IsFaultOf, fault_after, fault_between, is_fed_by, link_at_place, links_of};
 
-use crate::ends::{ends_of, input_of, is_fed, is_joined, output_of};
+use crate::ends::{ends_of, input_of, is_fed_by, is_joined, output_of};
 use crate::indices::index_fault;
 use crate::{LinkKind, MatchFault};
 use config_text::LinkText;
 use music_base::{Items, LinkId, NoMemory};
-use scene_model::{AppDecl, Direction, Link, PortDecl, PortKind};
+use scene_model::{AppDecl, Direction, Link, PortDecl};
 use std::alloc::Global;
 
 /// The first fault of a link between the two ports, after the links before it.
@@ -35,7 +35,7 @@ fn fault_between(
     if is_joined(before, link) {
         return Ok(Some(LinkKind::PairTwice));
     }
-    if input.kind == PortKind::Values && is_fed(before, link) {
+    if is_fed_by(input.kind, before, link) {
         return Ok(Some(LinkKind::ContTwice));
     }
     Ok(None)
