@@ -1,5 +1,5 @@
 -- What a text of rules spells, or the fault of its first faulty rule.
-use Rattle.std.specs.Prelude.{◌≡◌, ℕ, ◌+◌, Bool, not, nat_le, if◌then◌else◌, List, [], length, Option, Some, None, Result, Err}
+use Rattle.std.specs.Prelude.{◌≡◌, ⊤, ℕ, ◌+◌, Bool, not, nat_le, if◌then◌else◌, List, [], length, Option, Some, None, Result, Err}
 use Rattle.text_words.specs.Words.{declarations}
 use Rattle.text_words.specs.InTurn.{in_turn, unless}
 use Rattle.scene_model.specs.Limits.{most_rules}
@@ -41,9 +41,9 @@ rule_beside ports tick lasts before words =
 abbrev pub rules_of : List PortDecl → ℕ → ℕ → List ℕ → Result (List Rule) RuleFault
 rules_of ports tick stop text = in_turn (rule_beside ports tick (runs_for stop tick)) [] (declarations text)
 
--- the reading has this fault. Want of memory says nothing of it
+-- the reading has this fault; nothing is said of want of memory
 abbrev pub IsFaultOf : {A : Type 0} → Result A RuleFault → RuleFault → Type 0
-IsFaultOf reading Memory = Unit {0}
+IsFaultOf reading Memory = ⊤
 IsFaultOf reading (RuleText place) = reading ≡ Err (RuleText place)
 IsFaultOf reading (RulePort place) = reading ≡ Err (RulePort place)
 IsFaultOf reading (RuleIndex place) = reading ≡ Err (RuleIndex place)

@@ -1,6 +1,5 @@
 //! A rule as words spell it, before any memory is asked for.
 ghost use Rattle.std.specs.Prelude.{◌≡◌, IfOk, true};
-ghost use Rattle.music_base.specs.Names.{is_name};
 ghost use Rattle.scene_model.specs.Spellable.{is_spellable};
 ghost use Rattle.app_scripts.specs.Spelled.{relayed, rule_of, sourced};
 

@@ -1,5 +1,5 @@
 //! Which indices two ports map, by their intervals.
-ghost use Rattle.std.specs.Prelude.{◌≡◌, true, ◌&&◌, nat_le, nat_lt};
+ghost use Rattle.std.specs.Prelude.{◌≡◌, true, nat_le, nat_lt};
 ghost use Rattle.std.specs.List.{list_all, list_any, flat_map};
 ghost use Rattle.index_maps.specs.Intervals.{are_apart, holds, interval_indices};
 ghost use Rattle.port_match.specs.Covering.{from_end_above, is_in_first};

@@ -1,8 +1,8 @@
 //! The links that connections make, one after the other.
-ghost use Rattle.std.specs.Prelude.{◌≡◌, ◌≤◌, ◌<◌, ℕ, true, length, IfOk, IfErr};
+ghost use Rattle.std.specs.Prelude.{◌≡◌, ◌≤◌, ◌<◌, ℕ, length, IfOk, IfErr};
 ghost use Rattle.scene_model.specs.Limits.{most_apps, most_links, most_ports};
-ghost use Rattle.scene_model.specs.Links.{app_of, has_ends};
-ghost use Rattle.port_match.specs.Links.{IsFaultOf, fault_after, fault_between, is_fed_by, link_at_place, links_of};
+ghost use Rattle.scene_model.specs.Links.{app_of};
+ghost use Rattle.port_match.specs.Links.{IsFaultOf, fault_between, link_at_place, links_of};
 
 use crate::ends::{ends_of, input_of, is_fed_by, is_joined, output_of};
 use crate::indices::index_fault;

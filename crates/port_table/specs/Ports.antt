@@ -69,6 +69,7 @@ port_in np _ = None
 abbrev pub is_beyond : List PortDecl → List ℕ → Bool
 is_beyond before name = nat_le most_ports (length before) || list_any (λ (port : PortDecl). bytes_eq port.name name) before
 
+-- the fault of a map at its place: an index twice in a list, or else one at two ranks
 abbrev pub map_fault : ℕ → Option ℕ → Option ℕ → Option PortFault
 map_fault place (Some index) _ = Some (MapRepeated place index)
 map_fault place None (Some index) = Some (OutputTwice place index)
@@ -80,6 +81,7 @@ fault_beside before port =
     if is_beyond before port.name then Some (PortText (length before + 1))
     else map_fault (length before + 1) (map_repeat port.map) (output_twice port.direction port.map)
 
+-- the port of a declaration without a fault, or the first fault of it
 abbrev pub beside : List PortDecl → Option PortDecl → Result PortDecl PortFault
 beside before None = Err (PortText (length before + 1))
 beside before (Some port) = unless (fault_beside before port) port

@@ -1,9 +1,8 @@
 //! A map, from a word that has the form of one.
-ghost use Rattle.std.specs.Prelude.{◌≡◌, ◌==◌, ◌<◌, ◌≤◌, ◌-◌, ◌∷◌, true, length, option_map, is_some, IfOk, IfErr, IfSome, None, Some, nat_lt, replicate};
+ghost use Rattle.std.specs.Prelude.{◌≡◌, ◌≤◌, ◌-◌, ◌∷◌, true, option_map, is_some, IfOk, IfErr, IfSome, None, Some, nat_lt, replicate};
 ghost use Rattle.std.specs.List.{list_all};
 ghost use Rattle.text_words.specs.Options.{each, first_some};
 ghost use Rattle.text_words.specs.Parts.{parts};
-ghost use Rattle.index_maps.specs.Maps.{no_indices};
 ghost use Rattle.index_maps.specs.Repeats.{IsRepeatOf};
 ghost use Rattle.index_maps.specs.declared.span.TheConstants.{INDEX_LIMIT};
 ghost use Rattle.index_maps.specs.declared.map.IndexMap.TheVariants.{Linear};

@@ -1,5 +1,5 @@
 //! A map as a word: whether the word has the form of one.
-ghost use Rattle.std.specs.Prelude.{◌≡◌, ◌==◌, ◌≤◌, ◌<◌, ◌+◌, length, option_map, is_some, IfSome};
+ghost use Rattle.std.specs.Prelude.{◌≡◌, ◌==◌, ◌≤◌, length, option_map, is_some};
 ghost use Rattle.std.specs.List.{count_by, list_any};
 ghost use Rattle.text_words.specs.Options.{each};
 ghost use Rattle.text_words.specs.Parts.{is_byte, parts};

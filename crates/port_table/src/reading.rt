@@ -1,13 +1,12 @@
-ghost use Rattle.std.specs.Prelude.{◌≡◌, ◌<◌, ◌≤◌, ◌+◌, true, length, is_some, bytes_eq, IfOk, IfErr, IfSome, OnOk, MatchOption, Option, Some, None, Ok, option_copied};
+ghost use Rattle.std.specs.Prelude.{◌≡◌, ◌<◌, ◌≤◌, ◌+◌, true, length, is_some, bytes_eq, IfOk, IfErr, IfSome, OnOk, None, Ok, option_copied};
 ghost use Rattle.std.specs.List.{list_any};
-ghost use Rattle.music_base.specs.Names.{is_name};
 ghost use Rattle.index_maps.specs.Repeats.{IsRepeatOf};
 ghost use Rattle.text_words.specs.Words.{words};
 ghost use Rattle.scene_model.specs.Limits.{most_ports, most_ranks};
 ghost use Rattle.scene_model.specs.Ports.{names_differ, output_twice};
 ghost use Rattle.port_table.specs.MapWords.{map_in, map_repeat};
-ghost use Rattle.port_table.specs.Ports.{IsFaultOf, fault_beside, is_beyond, port_beside, port_in, port_with, ports_of};
-ghost use Rattle.port_table.specs.Seen.{IsThatFault, fault_of_map, seen, seen_map};
+ghost use Rattle.port_table.specs.Ports.{IsFaultOf, is_beyond, port_beside, port_with, ports_of};
+ghost use Rattle.port_table.specs.Seen.{IsThatFault, fault_of_map, seen_map};
 
 use crate::PortFault;
 use crate::map_reading::{message_map, read_map};
