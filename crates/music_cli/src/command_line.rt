@@ -1,5 +1,5 @@
 ghost use Rattle.std.specs.Prelude.{◌≡◌};
-ghost use Rattle.music_cli.specs.Words.{command_of, texts};
+ghost use Rattle.music_cli.specs.Words.{command_named, command_of, texts};
 
 /// What the program can be asked to do.
 #[derive(Clone, Copy, Debug, PartialEq, Eq)]
@@ -13,14 +13,24 @@ pub enum Command {
     Run,
 }
 
+/// The command that a word names.
+fn command_named(word: &[u8]) -> Option<Command>
+    ensures { result ≡ command_named word.now }
+{
+    match word {
+        b"check" => Some(Command::Check),
+        b"plan" => Some(Command::Plan),
+        b"run" => Some(Command::Run),
+        _ => None,
+    }
+}
+
 /// The command that the words behind the program's name give, or none where they are refused.
 pub fn command_of(words: &[String]) -> Option<Command>
     ensures { result ≡ command_of (texts words.now) }
 {
     match words {
-        [word] if word.as_bytes() == b"check".as_slice() => Some(Command::Check),
-        [word] if word.as_bytes() == b"plan".as_slice() => Some(Command::Plan),
-        [word] if word.as_bytes() == b"run".as_slice() => Some(Command::Run),
+        [word] => command_named(word.as_bytes()),
         _ => None,
     }
 }

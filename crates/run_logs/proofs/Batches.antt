@@ -1,5 +1,5 @@
 -- Rows that are written batch by batch.
-use Rattle.std.proofs.Common.{◌≡◌, ℕ, List, [], ◌++◌, take, drop, true, ◌&&◌, refl, sym, ap, ◌∙◌, append-nil, append_assoc, None, Some}
+use Rattle.std.proofs.Common.{◌≡◌, ℕ, List, [], ◌∷◌, ◌++◌, length, take, drop, true, ◌&&◌, refl, sym, ap, ◌∙◌, append-nil, append_assoc, None, Some, arith}
 use Rattle.std.specs.Prelude.{Option}
 use Rattle.std.specs.List.{flat_map, list_all}
 use Rattle.std.proofs.lemmas.Bool.{and_parts}
@@ -68,7 +68,8 @@ batch_prefix scene rows rest batch before between after so_far prefix =
     ∙ ap (λ text. text ++ lines scene (drop batch rest)) (flat_map-append (line_of scene) so_far.front (take batch rest)) in
     rw e (TookPrefix-front before after _ _ (TookPrefix-behind before between after (lines scene so_far.front) _ so_far.took prefix))
 
-pub all_written : (scene : Scene) (rows rest : List Row) (before after : Option (List ℕ)) → IsWrittenTo scene rows rest before after → rest ≡ [] → Took before (lines scene rows) after
-all_written scene rows rest before after so_far none =
-    let all : rows ≡ so_far.front = so_far.split ∙ ap (λ xs. so_far.front ++ xs) none ∙ append-nil so_far.front in
+pub all_written : (scene : Scene) (rows rest : List Row) (before after : Option (List ℕ)) → IsWrittenTo scene rows rest before after → length rest ≡ 0 → Took before (lines scene rows) after
+all_written scene rows [] before after so_far none =
+    let all : rows ≡ so_far.front = so_far.split ∙ append-nil so_far.front in
     rw all so_far.took
+all_written scene rows (row ∷ rest) before after so_far none = absurd (omega arith)

@@ -4,3 +4,4 @@ pub mod Rounds
 pub mod LeastLimits
 pub mod SceneLimits
 pub mod InTurn
+pub mod Signed

@@ -1,6 +1,11 @@
-use Rattle.std.proofs.Common.{◌≡◌, ◌∙◌, ap, take, arith}
-use Rattle.run_logs.proofs.Batches.{lines, batch_written, written_prefix, batch_prefix}
+use Rattle.std.proofs.Common.{◌≡◌, ◌∙◌, ap, sym, length, take, arith}
+use Rattle.std.proofs.lemmas.Bool.{eqb-true, eqb-false}
+use Rattle.std.proofs.lemmas.List.{length-drop}
+use Rattle.run_logs.proofs.Batches.{lines, none_written, writable_parts, batch_written, all_written, written_prefix, batch_prefix}
 use Rattle.run_logs.proofs.writing.write_lines.Goals as goal
+
+pub loop-rest-init : goal.loop-rest-init
+loop-rest-init g c = record { written = none_written _ _ _ c.requires; never_falls = omega arith }
 
 pub returns-in_default-clause-prefix : goal.returns-in_default-clause-prefix
 returns-in_default-clause-prefix g c = written_prefix _ _ _ _ _ c.loop-rest.invariant.written
@@ -22,3 +27,14 @@ loop-rest-preserved g c =
 
 pub returns-clause-prefix : goal.returns-clause-prefix
 returns-clause-prefix g c = written_prefix _ _ _ _ _ c.loop-rest.invariant.written
+
+pub lines_of-requires : goal.lines_of-requires
+lines_of-requires g c = rw c.split_at.ensures.front (writable_parts _ c.min.result _ c.loop-rest.invariant.written.writable).0
+
+pub loop-rest-smaller : goal.loop-rest-smaller
+loop-rest-smaller g c =
+    let some = eqb-false (length c.loop-rest.rest.now) 0 (sym c.is_empty.ensures ∙ c.loop-rest-test.true) in
+    omega (arith, ap length c.split_at.ensures.back, length-drop c.min.result c.loop-rest.rest.now, c.min.ensures, some)
+
+pub returns-clause-all : goal.returns-clause-all
+returns-clause-all g c = all_written _ _ _ _ _ c.loop-rest.invariant.written (eqb-true (length c.loop-rest.rest.now) 0 (sym c.is_empty.ensures ∙ c.loop-rest-test.false))

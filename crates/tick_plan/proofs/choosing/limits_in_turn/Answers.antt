@@ -48,14 +48,16 @@ loop-c-preserved c =
           is new_is chosen.in_range chosen.below chosen.chosen chosen.counting;
     }
 
-pub returns-clause-limits : goal.returns-clause-limits
-returns-clause-limits c = record {
-  counted = omega (arith, c.loop-c.invariant.so_far, c.loop-c.auto.c-end, c.loop-c-test.false, ap length c.requires.stated, length-stated_limits c.args.scene.now);
-  each = c.loop-c.invariant.under_way.each;
-}
-
-pub returns-clause-counting : goal.returns-clause-counting
-returns-clause-counting c =
-    all_chosen c.args.scene.now c.loop-c.counting.items c.loop-c.limits.items
-    (omega (arith, c.loop-c.invariant.so_far, c.loop-c.auto.c-end, c.loop-c-test.false, ap length c.requires.stated, length-stated_limits c.args.scene.now))
-    c.loop-c.invariant.under_way
+pub returns : goal.returns
+returns c =
+    let under_way = c.loop-c.invariant.under_way in
+    let counted : length c.loop-c.limits.items ≡ length c.args.scene.now.links =
+    omega (arith, c.loop-c.invariant.so_far, c.loop-c.auto.c-end, c.loop-c-test.false, ap length c.requires.stated, length-stated_limits c.args.scene.now) in
+    record {
+      limits = record { counted = counted; each = under_way.each };
+      in_range = under_way.in_range;
+      below = under_way.below;
+      counting = all_chosen c.args.scene.now c.loop-c.counting.items c.loop-c.limits.items counted under_way;
+      within = under_way.within;
+      covered = under_way.covered;
+    }

@@ -1,6 +1,7 @@
 use Rattle.std.proofs.Common.{◌≡◌, ◌≤◌, ◌↔◌, ℕ, ℤ, pos, ◌≤ℤ◌, All, IsTrue, List, Some, length, map, refl, ap, subst, sym, ◌∙◌, Bool}
 use Rattle.std.specs.Prelude.{neg_ℤ}
 use Rattle.std.specs.Int.{IsInRange}
+use Rattle.std.proofs.lemmas.List.{length-map}
 use Rattle.std.proofs.lemmas.List.Elements.{All-map, All-same, All-weaker}
 use Rattle.scene_model.specs.Cover.{Passes}
 use Rattle.scene_model.specs.Waits.{IsLawfulLimit, greatest_limit, greatest_potential, waits}
@@ -49,3 +50,18 @@ returns c =
     let given = c.deref-2.ensures.value ∙ c.in_ok-given.ensures ∙ ap (map (λ (m : ℕ). Some m)) c.deref.ensures.value in
     fits_is c.args.scene.now c.args.plan.now c.deref-3.result.now c.deref-4.result.now c.all_pass.result ranges c.deref-3.ensures.value
     (c.deref-4.ensures.value ∙ c.in_ok-waits.ensures.waits ∙ ap (waits c.args.scene.now) given) c.all_pass.ensures
+
+pub all_pass-requires : goal.all_pass-requires
+all_pass-requires c =
+    let ranges = c.if-not-has_ranges.ensures.0 refl in
+    record {
+      few = rw (c.deref-3.ensures.value, ranges.potentials_counted) c.requires.apps.few;
+      within = rw (c.deref-4.ensures.value, c.deref-3.ensures.value, ranges.potentials_counted) c.in_ok-waits.ensures.within;
+      potentials = rw c.deref-3.ensures.value ranges.potentials;
+    }
+
+pub waits-requires-clause-counted : goal.waits-requires-clause-counted
+waits-requires-clause-counted c =
+    let ranges = c.if-not-has_ranges.ensures.0 refl in
+    ap length (c.deref-2.ensures.value ∙ c.in_ok-given.ensures ∙ ap (map (λ (m : ℕ). Some m)) c.deref.ensures.value)
+    ∙ length-map c.args.plan.now.limits.items (λ (m : ℕ). Some m) ∙ ranges.limits_counted

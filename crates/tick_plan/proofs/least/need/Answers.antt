@@ -7,6 +7,7 @@ use Rattle.scene_model.specs.declared.wait.Wait.{Wait}
 use Rattle.tick_plan.specs.Bounds.{greatest_rise, greatest_height, greatest_start}
 use Rattle.tick_plan.specs.Heights.{rise_of}
 use Rattle.tick_plan.specs.Room.{need_of}
+use Rattle.tick_plan.proofs.Signed.{sum_fits}
 use Rattle.tick_plan.proofs.least.need.Goals as goal
 
 -- the sum and the difference as the code has them
@@ -46,3 +47,8 @@ pub returns-clause-small : goal.returns-clause-small
 returns-clause-small c =
     need_small _ c.args.wait.now _ _ _ _ (ap (λ (w : Wait). w.waiter) c.wait.view_is) (ap (λ (w : Wait). w.awaited) c.wait.view_is) c.requires.within c.requires.counted c.requires.top
     c.requires.start c.rise.ensures.high c.rise.ensures.low
+
+pub overflow_add-result : goal.overflow_add-result
+overflow_add-result c =
+    let awaited = ap (λ (w : Wait). w.awaited) c.wait.view_is in
+    sum_fits c.rise.result _ c.rise.ensures.high c.rise.ensures.low (c.requires.top _ 0 (omega (arith, c.requires.within.awaited, c.requires.counted, awaited)))

@@ -1,4 +1,4 @@
-use Rattle.std.proofs.Common.{◌≡◌, ◌≤◌, ℕ, ℤ, pos, ◌≤ℤ◌, All, List, Some, length, map, ap, subst, ◌∙◌}
+use Rattle.std.proofs.Common.{◌≡◌, ◌≤◌, ℕ, ℤ, pos, ◌≤ℤ◌, All, List, Some, length, map, ap, subst, ◌∙◌, arith}
 use Rattle.std.specs.Prelude.{neg_ℤ}
 use Rattle.std.specs.Int.{IsInRange}
 use Rattle.std.specs.Option.{is_some}
@@ -26,15 +26,29 @@ fits_from scene n limits counting potentials is are in_range same counted near p
   passed = AreSame-All (Passes (length scene.apps) potentials) counting (waits scene (map (λ (m : ℕ). Some m) limits)) same (subst (λ k. All (Passes k potentials) counting) is passed);
 }
 
-pub returns-clause-fits : goal.returns-clause-fits
-returns-clause-fits c =
+pub potentials-requires : goal.potentials-requires
+potentials-requires c =
+    let limits = c.in_ok-limits.ensures in
+    record {
+      few = omega (arith, c.len.ensures, c.requires.scene.apps.few);
+      within = rw (c.len.ensures, c.deref.ensures.value) limits.within;
+      covered = rw c.deref.ensures.value limits.covered;
+    }
+
+pub returns : goal.returns
+returns c =
     let limits = c.in_ok-limits.ensures in
     let potentials = c.in_ok-potentials.ensures in
     let read : c.deref.result.now ≡ c.limits_in_turn.new.counting.items = c.deref.ensures.value in
     let P : List Wait → Type 0 = λ ws. All (Passes c.len.result c.in_ok-potentials.potentials.items) ws in
+    let stated : c.in_ok-stated.stated.items ≡ map is_some (stated_limits c.args.scene.now) = c.in_ok-stated.ensures ∙ ap (map is_some) c.requires.stated in
     record {
-      stated_counted = ap length (c.in_ok-stated.ensures ∙ ap (map is_some) c.requires.stated)
-          ∙ length-map (stated_limits c.args.scene.now) is_some ∙ length-stated_limits c.args.scene.now;
-      fits = fits_from c.args.scene.now c.len.result c.in_ok-limits.limits.items c.limits_in_turn.new.counting.items c.in_ok-potentials.potentials.items c.len.ensures limits.limits limits.in_range
-          limits.counting potentials.counted potentials.near (subst P read potentials.passed);
+      limits = limits.limits;
+      below = limits.below;
+      stated = stated;
+      fits = record {
+        stated_counted = ap length stated ∙ length-map (stated_limits c.args.scene.now) is_some ∙ length-stated_limits c.args.scene.now;
+        fits = fits_from c.args.scene.now c.len.result c.in_ok-limits.limits.items c.limits_in_turn.new.counting.items c.in_ok-potentials.potentials.items c.len.ensures limits.limits limits.in_range
+            limits.counting potentials.counted potentials.near (subst P read potentials.passed);
+      };
     }

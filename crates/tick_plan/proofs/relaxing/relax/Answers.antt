@@ -1,6 +1,7 @@
-use Rattle.std.proofs.Common.{◌≡◌, ◌≢◌, ℕ, ◌+◌, ◌<◌, ◌≤◌, ◌∷◌, ◌+ℤ◌, pos, take, length, All, slice_index, slice_index_or, slice_set, List, Vec, ap, arith}
+use Rattle.std.proofs.Common.{◌≡◌, ◌≢◌, ℕ, ◌+◌, ◌<◌, ◌≤◌, ◌∷◌, ◌+ℤ◌, pos, take, length, All, slice_index, slice_index_or, slice_set, List, Vec, ap, ◌∙◌, arith}
 use Rattle.std.specs.List.{Contains}
 use Rattle.std.specs.declared.alloc.Global.{Global}
+use Rattle.std.proofs.lemmas.List.{get_or_default}
 use Rattle.scene_model.specs.Cover.{IsWithin, IsUncovered, WaitsOnce}
 use Rattle.scene_model.specs.Limits.{most_apps}
 use Rattle.scene_model.specs.declared.wait.Wait.{Wait}
@@ -10,6 +11,14 @@ use Rattle.tick_plan.proofs.relaxing.relax.Goals as goal
 
 pub raised_height-requires-clause-low : goal.raised_height-requires-clause-low
 raised_height-requires-clause-low c = rw c.deref.ensures.value (heights_low _ _ _ _ c.requires.few c.requires.within (HaveWalks-given _ _ _ _ c.requires.search))
+
+pub raised_height-requires-clause-counted : goal.raised_height-requires-clause-counted
+raised_height-requires-clause-counted c = ap length c.deref.ensures.value ∙ c.requires.search.heights_counted
+
+pub returns-in_default-clause-relaxed : goal.returns-in_default-clause-relaxed
+returns-in_default-clause-relaxed c = λ d.
+    let here = c.index-waits-at.is ∙ get_or_default c.args.waits.now c.args.at c.index-waits-at.result d c.requires.at in
+    rw (c.deref.ensures.value, here) at c.in_default.ensures.relaxed
 
 -- the walk that was read, behind it
 joined_is : (n : ℕ) (all : List Wait) (heights : List ℕ) (walks : List (Vec Wait Global)) (e : Wait) (v : ℕ) (row : Vec Wait Global) (rest whole : List Wait) →

@@ -1,5 +1,5 @@
 -- The test and the height as the code has them.
-use Rattle.std.proofs.Common.{◌≡◌, ℕ, ◌*◌, ◌<◌, ◌≤◌, true, false, List, All, length, ℤ, pos, ◌+ℤ◌, ◌≤ℤ◌, ◌<ℤ◌, to_z, of_z, slice_index, ap, arith, ◌∙◌}
+use Rattle.std.proofs.Common.{◌≡◌, ℕ, ◌*◌, ◌<◌, ◌≤◌, true, false, List, All, length, ℤ, pos, ◌+ℤ◌, ◌≤ℤ◌, to_z, of_z, slice_index, ap, arith, ◌∙◌}
 use Rattle.std.proofs.lemmas.Int.{ints}
 use lib.IntN.{nat_abs}
 use lib.Signed.{le_z}
@@ -9,6 +9,7 @@ use Rattle.scene_model.specs.Limits.{most_apps}
 use Rattle.scene_model.specs.declared.wait.Wait.{Wait}
 use Rattle.tick_plan.specs.Bounds.{greatest_rise, greatest_height}
 use Rattle.tick_plan.specs.Heights.{IsRelaxed, rise_of}
+use Rattle.tick_plan.proofs.Signed.{test_true, test_false, is_above, sum_fits}
 use Rattle.tick_plan.proofs.rising.raised_height.Goals as goal
 
 abbrev sum_in_code : ℤ → ℕ → ℤ
@@ -20,20 +21,6 @@ sum_is r a high low small = omega (arith, ints)
 
 cast_is : (b : ℕ) → b ≤ greatest_height → to_z w128 b ≡ pos b
 cast_is b small = omega (arith, ints)
-
-test_true : (a b : ℤ) → le_z a b ≡ true → a ≤ℤ b
-test_true a b h = grind (arith, ints)
-
-test_false : (a b : ℤ) → le_z a b ≡ false → b <ℤ a
-test_false a b h = grind (arith, ints)
-
--- a number above one that is not negative
-record IsAbove (z : ℤ) (y : ℕ) : Type 0 where
-  is : pos (nat_abs z) ≡ z
-  above : y < nat_abs z
-
-is_above : (z : ℤ) (y : ℕ) → pos y <ℤ z → IsAbove z y
-is_above z y h = record { is = omega (arith, ints); above = omega (arith, ints) }
 
 relaxed : (n : ℕ) (w : Wait) (heights : List ℕ) (r : ℤ) (u v : ℕ) → u ≡ w.waiter → v ≡ w.awaited → IsWithin n w → length heights ≡ n → All (λ h. h ≤ greatest_height) heights →
     r ≡ rise_of n w → r ≤ℤ pos greatest_rise → pos 0 ≤ℤ (r +ℤ pos (2 * most_apps * greatest_number)) →
@@ -76,3 +63,8 @@ pub returns-else-height-heights-clause-higher : goal.returns-else-height-heights
 returns-else-height-heights-clause-higher c =
     (raised _ c.args.wait.now _ _ _ _ (ap (λ (w : Wait). w.waiter) c.wait.view_is) (ap (λ (w : Wait). w.awaited) c.wait.view_is) c.requires.within c.requires.counted c.requires.low
     c.rise.ensures.value c.rise.ensures.high c.rise.ensures.low c.if-height-heights.false).higher
+
+pub overflow_add-height : goal.overflow_add-height
+overflow_add-height c =
+    let awaited = ap (λ (w : Wait). w.awaited) c.wait.view_is in
+    sum_fits c.rise.result _ c.rise.ensures.high c.rise.ensures.low (c.requires.low _ 0 (omega (arith, c.requires.within.awaited, c.requires.counted, awaited)))
