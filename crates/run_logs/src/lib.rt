@@ -1,7 +1,6 @@
 //! Rows of the log, and their bytes.
 //!
-//! A log is CSV: a header, and a line for each row, in the order of clock, application, port, rank and place in the
-//! step's list.
+//! A log is CSV: a header, and a line for each row, in the order in which the rows are given.
 #![tactic(auto)]
 
 mod fields;

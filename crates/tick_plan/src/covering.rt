@@ -34,7 +34,7 @@ pub fn cover(
     cover_waits(alloc, scene.apps.len() as u32, &waits)
 }
 
-/// Each limit as one that a connection has.
+/// Each of the limits as that of a connection that has one.
 pub(crate) fn given(alloc: Global, limits: &[u64]) -> Result<Vec<Option<u64>>, NoMemory>
     ensures { IfOk result (λ given. given.items ≡ map (λ m. Some m) limits.now) }
 {

@@ -26,7 +26,7 @@ pub struct Plan {
     pub potentials: Vec<i128>,
 }
 
-/// Which of these limits there are.
+/// Of each of these limits, whether there is one.
 fn which_stated(alloc: Global, stated: &[Option<u64>]) -> Result<Vec<bool>, NoMemory>
     ensures { IfOk result (λ which. which.items ≡ map is_some stated.now) }
 {
