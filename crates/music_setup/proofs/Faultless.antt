@@ -40,7 +40,7 @@ use Rattle.app_scripts.specs.Rules.{rules_of}
 use Rattle.app_scripts.proofs.Faultless.{rules_of-are}
 use Rattle.port_match.specs.Links as match
 use Rattle.port_match.proofs.Made.{links_of-are, links_of-many, links_of-widths}
-use Rattle.music_setup.specs.Apps.{app_beside, app_in, apps_until, holds_or, is_script, np_in, only_if, pace_in, parts_in, ports_in, rules_in, stop_in, stop_of, tick_in, time_or_none}
+use Rattle.music_setup.specs.Apps.{app_beside, app_in, apps_until, holds_or, is_script, np_in, np_of, only_if, parts_in, ports_in, rules_in, stop_in, stop_of, tick_in, tick_of, time_or_none}
 use Rattle.music_setup.specs.Apps as apps
 use Rattle.music_setup.specs.Faults.{of_links}
 use Rattle.music_setup.specs.Scenes.{links_of, scene_of}
@@ -89,20 +89,22 @@ held : {E : Type 0} (test : Bool) (fault : E) → IfOk (holds_or test fault) (λ
 held true fault = refl
 held false fault = tt
 
--- its number of processes and its tick
-record HasPace (stop : ℕ) (pace : ℕ × ℕ) : Type 0 where
-  np : IsInRange 1 most_ranks pace.0
-  tick : IsInRange 1 longest_tick pace.1
-  few_steps : steps_until stop pace.1 ≤ most_steps
+np_of-is : (config : Config) (a : ℕ) → IfOk (np_of config a) (IsInRange 1 most_ranks)
+unfolding np_of
+np_of-is config a = IfOk-some_or (IsInRange 1 most_ranks) _ NpText (np_is (looked_up config a (codes "np")))
 
-pace_is : (config : Config) (stop a : ℕ) → IfOk (pace_in config stop a) (HasPace stop)
-unfolding pace_in
-pace_is config stop a =
-    IfOk-bind (IsInRange 1 most_ranks) (HasPace stop) _ (some_or (np_in (looked_up config a (codes "np"))) NpText) (IfOk-some_or (IsInRange 1 most_ranks) _ NpText (np_is (looked_up config a (codes "np")))) (λ np few_ranks.
-    IfOk-given (HasPace stop) _ (holds_or (is_script (looked_up config a (codes "binary"))) Binary) (λ scripted is.
-    IfOk-bind (IsInRange 1 longest_tick) (HasPace stop) _ (some_or (tick_in (looked_up config a (codes "timestep"))) TickText) (IfOk-some_or (IsInRange 1 longest_tick) _ TickText (tick_is (looked_up config a (codes "timestep")))) (λ tick lasts.
-    IfOk-bind (λ u. nat_le (steps_until stop tick) most_steps ≡ true) (HasPace stop) _ (holds_or (nat_le (steps_until stop tick) most_steps) TooManySteps) (held _ TooManySteps) (λ u few.
-    record { np = few_ranks; tick = lasts; few_steps = leb-true (steps_until stop tick) most_steps few }))))
+-- a tick, and the steps that it leaves
+record IsTick (stop tick : ℕ) : Type 0 where
+  lasts : IsInRange 1 longest_tick tick
+  few_steps : steps_until stop tick ≤ most_steps
+
+tick_of-is : (config : Config) (stop a : ℕ) → IfOk (tick_of config stop a) (IsTick stop)
+unfolding tick_of
+tick_of-is config stop a =
+    IfOk-given (IsTick stop) _ (holds_or (is_script (looked_up config a (codes "binary"))) Binary) (λ scripted is.
+    IfOk-bind (IsInRange 1 longest_tick) (IsTick stop) _ (some_or (tick_in (looked_up config a (codes "timestep"))) TickText) (IfOk-some_or (IsInRange 1 longest_tick) _ TickText (tick_is (looked_up config a (codes "timestep")))) (λ tick lasts.
+    IfOk-bind (λ u. nat_le (steps_until stop tick) most_steps ≡ true) (IsTick stop) _ (holds_or (nat_le (steps_until stop tick) most_steps) TooManySteps) (held _ TooManySteps) (λ u few.
+    record { lasts = lasts; few_steps = leb-true (steps_until stop tick) most_steps few })))
 
 -- its ports and rules
 record HasParts (stop np tick : ℕ) (parts : List PortDecl × List Rule) : Type 0 where
@@ -129,25 +131,28 @@ parts_are config stop a np tick some =
 -- all of it but its name
 record IsOfName (stop : ℕ) (name : List ℕ) (app : AppDecl) : Type 0 where
   named : app.name ≡ name
-  pace : HasPace stop (app.np, app.tick)
+  np : IsInRange 1 most_ranks app.np
+  tick : IsTick stop app.tick
   parts : HasParts stop app.np app.tick (app.ports, app.rules)
 
 app_is : (config : Config) (stop a : ℕ) (name : List ℕ) → IfOk (app_in config stop a name) (IsOfName stop name)
 unfolding app_in
 app_is config stop a name =
-    IfOk-bind (HasPace stop) (IsOfName stop name) _ (pace_in config stop a) (pace_is config stop a) (λ pace has.
-    IfOk-bind (HasParts stop pace.0 pace.1) (IsOfName stop name) _ (parts_in config stop a pace.0 pace.1) (parts_are config stop a pace.0 pace.1 has.np.0) (λ parts are.
+    IfOk-bind (IsInRange 1 most_ranks) (IsOfName stop name) _ (np_of config a) (np_of-is config a) (λ np some.
+    IfOk-bind (IsTick stop) (IsOfName stop name) _ (tick_of config stop a) (tick_of-is config stop a) (λ tick is.
+    IfOk-bind (HasParts stop np tick) (IsOfName stop name) _ (parts_in config stop a np tick) (parts_are config stop a np tick some.0) (λ parts are.
     record {
       named = refl;
-      pace = record { np = has.np; tick = has.tick; few_steps = has.few_steps };
+      np = some;
+      tick = record { lasts = is.lasts; few_steps = is.few_steps };
       parts = record { ports = are.ports; rules = are.rules; few_values = are.few_values };
-    }))
+    })))
 
 -- ---- all applications
 
 -- but for its name an application is lawful
 abbrev IsUnnamed : ℕ → AppDecl → Type 0
-IsUnnamed stop app = HasPace stop (app.np, app.tick) × HasParts stop app.np app.tick (app.ports, app.rules)
+IsUnnamed stop app = IsInRange 1 most_ranks app.np × IsTick stop app.tick × HasParts stop app.np app.tick (app.ports, app.rules)
 
 beside_is : (config : Config) (stop : ℕ) (before : List AppDecl) (section : List ℕ × SettingList) (app : AppDecl) → app_beside config stop before section ≡ Ok app → IsOfName stop section.0 app
 beside_is config stop before section app gave =
@@ -157,7 +162,7 @@ beside_is config stop before section app gave =
 unnamed_are : (config : Config) (stop : ℕ) (apps : List AppDecl) → apps_until config stop ≡ Ok apps → AllByRecursion (IsUnnamed stop) apps
 unnamed_are config stop apps gave =
     in_turn-keeps (app_beside config stop) (AllByRecursion (IsUnnamed stop))
-    (λ before section app so_far is. let lawful = beside_is config stop before section app is in All-push (IsUnnamed stop) before app so_far (lawful.pace, lawful.parts))
+    (λ before section app so_far is. let lawful = beside_is config stop before section app is in All-push (IsUnnamed stop) before app so_far (lawful.np, lawful.tick, lawful.parts))
     config.sections [] apps tt gave
 
 abbrev pub HaveNames : List AppDecl → SectionList → Type 0
@@ -179,12 +184,12 @@ with_names stop (app ∷ apps) (section ∷ sections) named lawful are =
     let spelled = (and_parts (is_name section.0) (are_settings section.1) front.0).0 in (
       record {
         name = rw name spelled;
-        np = are.0.0.np;
-        tick = are.0.0.tick;
-        few_steps = are.0.0.few_steps;
-        ports = are.0.1.ports;
-        rules = are.0.1.rules;
-        few_values = are.0.1.few_values;
+        np = are.0.0;
+        tick = are.0.1.lasts;
+        few_steps = are.0.1.few_steps;
+        ports = are.0.2.ports;
+        rules = are.0.2.rules;
+        few_values = are.0.2.few_values;
       },
       with_names stop apps sections others front.1 are.1,
     )

@@ -20,7 +20,7 @@ use Rattle.app_scripts.specs.Forms.{rule_in}
 use Rattle.app_scripts.specs.Rules.{fault_of, judged, rule_beside, rules_of}
 use Rattle.app_scripts.specs.declared.fault.RuleFault.{RuleFault}
 use Rattle.app_scripts.specs.declared.fault.RuleFault.TheVariants as rule
-use Rattle.music_setup.specs.Apps.{app_in, holds_or, is_script, np_in, pace_in, parts_in, ports_in, rules_in, tick_in}
+use Rattle.music_setup.specs.Apps.{app_in, holds_or, is_script, np_of, parts_in, ports_in, rules_in, tick_in, tick_of}
 use Rattle.music_setup.specs.Texts.{HasKindText}
 use Rattle.music_setup.specs.declared.fault.AppKind.TheVariants.{NpText, Binary, TickText, TooManySteps, Ports, Rules, TooManyValues}
 
@@ -114,13 +114,16 @@ of_rules ports tick stop text = IfErr-in_turn IsRuleKind (rule_beside ports tick
 
 -- ---- an application
 
-of_pace : (config : Config) (stop a : ℕ) → IfErr (pace_in config stop a) HasKindText
-unfolding pace_in
-of_pace config stop a =
-    IfErr-bind HasKindText (some_or (np_in (looked_up config a (codes "np"))) NpText) _ (IfErr-some_or HasKindText _ NpText tt) (λ np.
+of_np : (config : Config) (a : ℕ) → IfErr (np_of config a) HasKindText
+unfolding np_of
+of_np config a = IfErr-some_or HasKindText _ NpText tt
+
+of_tick : (config : Config) (stop a : ℕ) → IfErr (tick_of config stop a) HasKindText
+unfolding tick_of
+of_tick config stop a =
     IfErr-bind HasKindText (holds_or (is_script (looked_up config a (codes "binary"))) Binary) _ (IfErr-holds_or HasKindText _ Binary tt) (λ scripted.
     IfErr-bind HasKindText (some_or (tick_in (looked_up config a (codes "timestep"))) TickText) _ (IfErr-some_or HasKindText _ TickText tt) (λ tick.
-    IfErr-bind HasKindText (holds_or (nat_le (steps_until stop tick) most_steps) TooManySteps) _ (IfErr-holds_or HasKindText _ TooManySteps tt) (λ few. tt))))
+    IfErr-bind HasKindText (holds_or (nat_le (steps_until stop tick) most_steps) TooManySteps) _ (IfErr-holds_or HasKindText _ TooManySteps tt) (λ few. tt)))
 
 of_parts : (config : Config) (stop a np tick : ℕ) → IfErr (parts_in config stop a np tick) HasKindText
 unfolding parts_in
@@ -132,5 +135,6 @@ of_parts config stop a np tick =
 pub of_app : (config : Config) (stop a : ℕ) (name : List ℕ) → IfErr (app_in config stop a name) HasKindText
 unfolding app_in
 of_app config stop a name =
-    IfErr-bind HasKindText (pace_in config stop a) _ (of_pace config stop a) (λ pace.
-    IfErr-bind HasKindText (parts_in config stop a pace.0 pace.1) _ (of_parts config stop a pace.0 pace.1) (λ parts. tt))
+    IfErr-bind HasKindText (np_of config a) _ (of_np config a) (λ np.
+    IfErr-bind HasKindText (tick_of config stop a) _ (of_tick config stop a) (λ tick.
+    IfErr-bind HasKindText (parts_in config stop a np tick) _ (of_parts config stop a np tick) (λ parts. tt)))

@@ -1,5 +1,5 @@
 -- The stop of a configuration and its applications, or its first fault among these.
-use Rattle.std.specs.Prelude.{ℕ, ◌≤◌, Bool, false, nat_le, if◌then◌else◌, List, [], length, codes, bytes_eq, Option, None, Some, unwrap_or, Result, Ok, Err}
+use Rattle.std.specs.Prelude.{ℕ, Bool, false, nat_le, if◌then◌else◌, List, [], length, codes, bytes_eq, Option, None, Some, unwrap_or, Result, Ok, Err}
 use Rattle.std.specs.Int.{is_in_range}
 use Rattle.music_base.specs.Clocks.{steps_until}
 use Rattle.music_base.specs.Times.{time_value}
@@ -67,20 +67,17 @@ rules_in ports tick stop text = faults_as Rules (rules_of ports tick stop (unwra
 abbrev pub holds_or : {E : Type 0} → Bool → E → Result (Unit {0}) E
 holds_or test fault = if test then Ok tt else Err fault
 
--- there are 1 to 64 processes, and time goes on
-pub record IsPace (np tick : ℕ) : Type 0 where
-  pub some : 1 ≤ np
-  pub few : np ≤ most_ranks
-  pub goes_on : 1 ≤ tick
+-- how many processes the application of the section at place a, from 0, has
+unfoldable pub np_of : Config → ℕ → Result ℕ AppKind
+np_of config a = some_or (np_in (looked_up config a (codes "np"))) NpText
 
--- how many processes the application of the section at place a, from 0, has, and its tick
-unfoldable pub pace_in : Config → ℕ → ℕ → Result (ℕ × ℕ) AppKind
-pace_in config stop a = do
-  np ← some_or (np_in (looked_up config a (codes "np"))) NpText
+-- the tick of that application, which is a script and makes few enough steps
+unfoldable pub tick_of : Config → ℕ → ℕ → Result ℕ AppKind
+tick_of config stop a = do
   scripted ← holds_or (is_script (looked_up config a (codes "binary"))) Binary
   tick ← some_or (tick_in (looked_up config a (codes "timestep"))) TickText
   few ← holds_or (nat_le (steps_until stop tick) most_steps) TooManySteps
-  Ok (np, tick)
+  Ok tick
 
 -- the ports and the rules of an application of so many processes and this tick
 unfoldable pub parts_in : Config → ℕ → ℕ → ℕ → ℕ → Result (List PortDecl × List Rule) AppKind
@@ -94,9 +91,10 @@ parts_in config stop a np tick = do
 -- own, else the default.
 unfoldable pub app_in : Config → ℕ → ℕ → List ℕ → Result AppDecl AppKind
 app_in config stop a name = do
-  pace ← pace_in config stop a
-  parts ← parts_in config stop a pace.0 pace.1
-  Ok (record { name = name; np = pace.0; tick = pace.1; ports = parts.0; rules = parts.1 })
+  np ← np_of config a
+  tick ← tick_of config stop a
+  parts ← parts_in config stop a np tick
+  Ok (record { name = name; np = np; tick = tick; ports = parts.0; rules = parts.1 })
 
 -- ---- the whole
 

@@ -6,7 +6,7 @@ ghost use Rattle.scene_model.specs.Limits.{most_ranks, most_steps};
 ghost use Rattle.scene_model.specs.Ports.{names_differ};
 ghost use Rattle.music_base.specs.Times.{greatest_time};
 ghost use Rattle.scene_model.specs.Faults.{AreApps};
-ghost use Rattle.music_setup.specs.Apps.{IsPace, app_in, apps_of, apps_until, pace_in, parts_in, ports_in, rules_in, stop_of};
+ghost use Rattle.music_setup.specs.Apps.{app_in, apps_of, apps_until, np_of, parts_in, ports_in, rules_in, stop_of, tick_of};
 ghost use Rattle.music_setup.specs.Faults.{IsAppFault, IsSceneFault};
 
 use crate::fault::AppFault;
@@ -63,24 +63,27 @@ fn are_few(steps: u64) -> bool
     steps <= MOST_STEPS
 }
 
-/// How an application steps: its number of processes, and its tick.
-#[derive(Clone, Copy)]
-struct Pace {
-    np: u32,
-    tick: Nanos,
+/// The number of processes of the application of the section at this place.
+#[tactic(auto, unfolding(crate::specs::Apps::np_of))]
+fn read_np(alloc: Global, config: &Config, place: u32) -> Result<u32, AppFault>
+    requires { place < length config.now.sections }
+    ensures np { IfOk result (λ np. np_of config.now place ≡ Ok np) }
+    ensures least { IfOk result (λ np. 1 ≤ np) }
+    ensures most { IfOk result (λ np. np ≤ most_ranks) }
+    ensures fault { IfErr result (IsAppFault (np_of config.now place)) }
+{
+    let text = setting(alloc, config, place, b"np")?;
+    np_in(text).ok_or(AppFault::Kind(AppKind::NpText))
 }
 
-/// The pace of the application of the section at this place.
-#[tactic(auto, unfolding(crate::specs::Apps::pace_in))]
-fn read_pace(alloc: Global, config: &Config, stop: Nanos, place: u32) -> Result<Pace, AppFault>
+/// The tick of the application of the section at this place, which has to be a script of few enough steps.
+#[tactic(auto, unfolding(crate::specs::Apps::tick_of))]
+fn read_tick(alloc: Global, config: &Config, stop: Nanos, place: u32) -> Result<Nanos, AppFault>
     requires { place < length config.now.sections }
-    ensures pace { IfOk result (λ pace. pace_in config.now stop place ≡ Ok (pace.np, pace.tick)) }
-    ensures least { IfOk result (λ pace. IsPace pace.np pace.tick) }
-    ensures fault { IfErr result (IsAppFault (pace_in config.now stop place)) }
+    ensures tick { IfOk result (λ tick. tick_of config.now stop place ≡ Ok tick) }
+    ensures least { IfOk result (λ tick. 1 ≤ tick) }
+    ensures fault { IfErr result (IsAppFault (tick_of config.now stop place)) }
 {
-    let Some(np) = np_in(setting(alloc, config, place, b"np")?) else {
-        return Err(AppFault::Kind(AppKind::NpText));
-    };
     if !is_script(setting(alloc, config, place, b"binary")?) {
         return Err(AppFault::Kind(AppKind::Binary));
     }
@@ -90,7 +93,7 @@ fn read_pace(alloc: Global, config: &Config, stop: Nanos, place: u32) -> Result<
     if !are_few(steps_of(stop, tick)) {
         return Err(AppFault::Kind(AppKind::TooManySteps));
     }
-    Ok(Pace { np, tick })
+    Ok(tick)
 }
 
 /// The ports and the rules of the application of the section at this place.
@@ -100,17 +103,20 @@ fn read_parts(
     config: &Config,
     stop: Nanos,
     place: u32,
-    pace: Pace,
+    np: u32,
+    tick: Nanos,
 ) -> Result<(Items<PortDecl>, Items<Rule>), AppFault>
     requires place { place < length config.now.sections }
-    requires pace { IsPace pace.np pace.tick }
-    ensures parts { IfOk result (λ parts. parts_in config.now stop place pace.np pace.tick ≡ Ok (parts.0, parts.1)) }
-    ensures fault { IfErr result (IsAppFault (parts_in config.now stop place pace.np pace.tick)) }
+    requires least { 1 ≤ np }
+    requires most { np ≤ most_ranks }
+    requires tick { 1 ≤ tick }
+    ensures parts { IfOk result (λ parts. parts_in config.now stop place np tick ≡ Ok (parts.0, parts.1)) }
+    ensures fault { IfErr result (IsAppFault (parts_in config.now stop place np tick)) }
 {
-    let ports = ports_in(alloc, pace.np, setting(alloc, config, place, b"ports")?)?;
+    let ports = ports_in(alloc, np, setting(alloc, config, place, b"ports")?)?;
     let args = setting(alloc, config, place, b"args")?;
-    let rules = rules_in(alloc, ports.as_slice(), pace.tick, stop, args)?;
-    if !has_few_values(steps_of(stop, pace.tick), ports.as_slice()) {
+    let rules = rules_in(alloc, ports.as_slice(), tick, stop, args)?;
+    if !has_few_values(steps_of(stop, tick), ports.as_slice()) {
         return Err(AppFault::Kind(AppKind::TooManyValues));
     }
     Ok((ports, rules))
@@ -129,9 +135,9 @@ fn read_app(
     ensures app { IfOk result (λ app. app_in config.now stop place name.now ≡ Ok app) }
     ensures fault { IfErr result (IsAppFault (app_in config.now stop place name.now)) }
 {
-    let pace = read_pace(alloc, config, stop, place)?;
-    let Pace { np, tick } = pace;
-    let (ports, rules) = read_parts(alloc, config, stop, place, pace)?;
+    let np = read_np(alloc, config, place)?;
+    let tick = read_tick(alloc, config, stop, place)?;
+    let (ports, rules) = read_parts(alloc, config, stop, place, np, tick)?;
     let name = name.copy(alloc)?;
     Ok(AppDecl {
         name,
