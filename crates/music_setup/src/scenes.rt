@@ -22,7 +22,7 @@ use std::alloc::Global;
 /// Refused is the first fault: that of the stop; then that of the first application that has one, by its place from 0,
 /// with the first of its kinds in the order of `AppKind`; then that of the first faulty connection, by its place from 0,
 /// with the first of its kinds in the order of `LinkKind`. A text fault is never the answer.
-#[tactic(auto, using(crate::proofs::OfScenes::scene_fault, crate::proofs::OfScenes::link_fault, crate::proofs::OfScenes::read_scene))]
+#[tactic(auto, using(crate::proofs::OfScenes::scene_fault, crate::proofs::OfScenes::link_fault))]
 pub fn read_scene(alloc: Global, config: &Config) -> Result<Scene, SetupFault>
     ensures scene { IfOk result (λ scene. scene_of config.now ≡ Ok scene) }
     ensures fault { IfErr result (IsSetupFault (scene_of config.now)) }

@@ -20,6 +20,11 @@ loop-place-preserved c =
       counted = rw (length-append, c.loop-place.invariant.counted) refl;
     })
 
+pub returns-clause-apps : goal.returns-clause-apps
+returns-clause-apps c =
+    let past : length c.args.config.now.sections ≤ c.loop-place.place = omega (arith, c.len-place-end.ensures.len, c.loop-place-test.false) in
+    sym (rw (drop_all c.loop-place.place c.args.config.now.sections past) at c.loop-place.invariant.read)
+
 pub returns-clause-lawful : goal.returns-clause-lawful
 returns-clause-lawful c =
     let past : length c.args.config.now.sections ≤ c.loop-place.place = omega (arith, c.len-place-end.ensures.len, c.loop-place-test.false) in
