@@ -2,7 +2,7 @@
 ghost use Rattle.std.specs.Prelude.{◌≡◌, ◌≤◌, ◌-◌, ◌^◌, true, min, IfSome};
 ghost use Rattle.std.specs.List.{list_all};
 ghost use Rattle.std.specs.Char.{is_ascii_digit};
-ghost use Rattle.std.specs.Str.Parse.{digits_value, digits_value_after, starts_with_minus, without_leading_sign};
+ghost use Rattle.std.specs.Str.Parse.{digits_value, starts_with_minus, without_leading_sign};
 ghost use Rattle.music_base.specs.Counts.{is_count, is_short_count, count_up_to};
 
 /// Whether all bytes are decimal digits.
@@ -26,14 +26,14 @@ pub fn is_short_count(most: usize, text: &[u8]) -> bool
     is_count(text) && text.len() <= most
 }
 
-/// The number that the digits write behind those of `number`, or the greatest `u128` where it is above that.
-pub fn number_behind(number: u128, digits: &[u8]) -> u128
+/// The number that the digits write, or the greatest `u64` where it is above that.
+pub fn number_of(digits: &[u8]) -> u64
     requires { list_all is_ascii_digit digits.now ≡ true }
-    ensures { result ≡ min (digits_value_after 10 number digits.now) (2 ^ 128 - 1) }
+    ensures { result ≡ min (digits_value 10 digits.now) (2 ^ 64 - 1) }
 {
-    let mut value = number;
+    let mut value = 0u64;
     for digit in digits {
-        let worth = u128::from(*digit - b'0');
+        let worth = u64::from(*digit - b'0');
         value = value.saturating_mul(10).saturating_add(worth);
     }
     value
@@ -48,8 +48,8 @@ pub fn count_up_to(most: u32, text: &[u8]) -> Option<u32>
     if !is_count(text) {
         return None;
     }
-    let number = number_behind(0, text);
-    if number <= u128::from(most) {
+    let number = number_of(text);
+    if number <= u64::from(most) {
         Some(number as u32)
     } else {
         None

@@ -31,7 +31,7 @@ pub use arithmetic::{floor_to, gcd};
 pub use bytes::byte_place;
 pub use clocks::{due, steps_of};
 pub use copying::{TryCopy, copy_all};
-pub use counts::{count_up_to, is_negative, is_short_count, number_behind, without_sign};
+pub use counts::{count_up_to, is_negative, is_short_count, number_of, without_sign};
 pub use errors::{Failed, NoMemory};
 pub use gate::{FreeGate, Gate};
 pub use item::{Block, Event, Item, Message};

@@ -1,10 +1,12 @@
 //! The parts of a time text, where they stand in it.
-ghost use Rattle.std.specs.Prelude.{◌≡◌, ◌+◌, ◌^◌, ◌<◌, ◌≤◌, true, drop, length};
-ghost use Rattle.std.specs.List.{position, position_or_len};
-ghost use Rattle.music_base.specs.Times.{is_time_text, is_exponent_mark, is_point, is_exponent, has_good_exponent, fraction, exponent_size, digits_of, raised, lowered};
+ghost use Rattle.std.specs.Prelude.{◌≡◌, ◌+◌, ◌-◌, ◌^◌, ◌<◌, ◌≤◌, true, drop, length, min};
+ghost use Rattle.std.specs.List.{list_all, position, position_or_len};
+ghost use Rattle.std.specs.Char.{is_ascii_digit};
+ghost use Rattle.std.specs.Str.Parse.{digits_value_after, starts_with_minus};
+ghost use Rattle.music_base.specs.Times.{is_time_text, is_exponent_mark, is_point, is_exponent, has_good_exponent, exponent, fraction, exponent_size, digits_of, raised, lowered};
 ghost use Rattle.music_base.specs.TimeCuts.{IsCut};
 
-use crate::counts::{are_digits, is_negative, is_short_count, number_behind, without_sign};
+use crate::counts::{are_digits, is_negative, is_short_count, without_sign};
 
 /// How many bytes a time text has at most.
 const LONGEST: usize = 30;
@@ -117,6 +119,19 @@ pub fn is_time_text(cut: TimeCut<'_>) -> bool
         && has_good_exponent(cut)
 }
 
+/// The number that the digits write behind those of `number`, or the greatest `u128` where it is above that.
+fn number_behind(number: u128, digits: &[u8]) -> u128
+    requires { list_all is_ascii_digit digits.now ≡ true }
+    ensures { result ≡ min (digits_value_after 10 number digits.now) (2 ^ 128 - 1) }
+{
+    let mut value = number;
+    for digit in digits {
+        let worth = u128::from(*digit - b'0');
+        value = value.saturating_mul(10).saturating_add(worth);
+    }
+    value
+}
+
 /// How far the exponent moves the point, to either side.
 fn exponent_size(cut: TimeCut<'_>) -> u32
     requires cut { IsCut cut }
@@ -137,13 +152,21 @@ pub fn digits_of(cut: TimeCut<'_>) -> u128
     number_behind(number_behind(0, cut.whole), cut.fraction)
 }
 
+/// Whether a `-` stands in front of the exponent.
+fn is_lowering(cut: TimeCut<'_>) -> bool
+    requires { IsCut cut }
+    ensures { result ≡ starts_with_minus (exponent cut.entry.text.now) }
+{
+    is_negative(cut.exponent)
+}
+
 /// How many tens the digits are multiplied by.
 pub fn raised(cut: TimeCut<'_>) -> u32
     requires cut { IsCut cut }
     requires form { is_time_text cut.text.now ≡ true }
     ensures { result ≡ raised cut.entry.text.now }
 {
-    if is_negative(cut.exponent) {
+    if is_lowering(cut) {
         9
     } else {
         9 + exponent_size(cut)
@@ -166,7 +189,7 @@ pub fn lowered(cut: TimeCut<'_>) -> u32
     requires form { is_time_text cut.text.now ≡ true }
     ensures { result ≡ lowered cut.entry.text.now }
 {
-    if is_negative(cut.exponent) {
+    if is_lowering(cut) {
         places(cut) + exponent_size(cut)
     } else {
         places(cut)

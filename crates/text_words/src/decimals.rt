@@ -8,7 +8,7 @@ ghost use Rattle.text_words.specs.Numbers.{is_decimal, has_good_fraction, whole,
 
 use crate::cut::around;
 use crate::signed::with_sign;
-use music_base::{is_negative, is_short_count, number_behind};
+use music_base::{is_negative, is_short_count, number_of};
 
 /// How many digits stand at most before the point.
 const MOST_WHOLE_DIGITS: usize = 12;
@@ -52,13 +52,13 @@ fn is_decimal(text: &[u8]) -> bool
 }
 
 /// The number that at most twelve digits write.
-fn number_of(digits: &[u8]) -> u64
+fn short_number(digits: &[u8]) -> u64
     requires digits { list_all is_ascii_digit digits.now ≡ true }
     requires few { length digits.now ≤ most_whole_digits }
     ensures value { result ≡ digits_value 10 digits.now }
     ensures small { result < 10 ^ most_whole_digits }
 {
-    number_behind(0, digits) as u64
+    number_of(digits)
 }
 
 /// What digits after a point are worth, in millionths.
@@ -69,7 +69,7 @@ fn worth(digits: &[u8]) -> u64
     ensures value { result ≡ worth digits.now }
     ensures small { result < 10 ^ most_fraction_digits }
 {
-    number_of(digits) * 10u64.pow((MOST_FRACTION_DIGITS - digits.len()) as u32)
+    short_number(digits) * 10u64.pow((MOST_FRACTION_DIGITS - digits.len()) as u32)
 }
 
 /// A decimal number without a sign, in millionths.
@@ -81,7 +81,7 @@ fn millionths(text: &[u8]) -> Option<u64>
     if !is_decimal(text) {
         return None;
     }
-    Some(number_of(whole(text)) * MILLION + worth(fraction(text)))
+    Some(short_number(whole(text)) * MILLION + worth(fraction(text)))
 }
 
 fn without_minus(text: &[u8]) -> &[u8]

@@ -1,6 +1,6 @@
 use Rattle.std.proofs.Common.{◌-◌, ◌^◌}
 use Rattle.music_base.proofs.DigitValues.{one_more}
-use Rattle.music_base.proofs.counts.number_behind.Goals as goal
+use Rattle.music_base.proofs.time_parts.number_behind.Goals as goal
 
 pub loop-digit-preserved : goal.loop-digit-preserved
 loop-digit-preserved c =
