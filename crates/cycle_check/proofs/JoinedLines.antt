@@ -4,7 +4,7 @@ use Rattle.std.specs.List.{flat_map}
 use Rattle.std.proofs.lemmas.List.{take_more}
 use Rattle.std.proofs.lemmas.List.Concat.{flat_map-append}
 use Rattle.scene_model.specs.declared.wait.Wait.{Wait}
-use Rattle.cycle_check.specs.CycleTexts.{ended}
+use Rattle.music_base.specs.Lines.{ended}
 
 pub joined_ends : (text waiter a awaited : List ℕ) → ((text ++ waiter) ++ a) ++ awaited ≡ text ++ ((waiter ++ a) ++ awaited)
 joined_ends text waiter a awaited = simp append_assoc

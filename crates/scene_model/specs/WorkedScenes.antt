@@ -1,5 +1,5 @@
 -- Small scenes, of which the laws say what their logs are.
-use Rattle.std.specs.Prelude.{ℕ, ◌*◌, ◌++◌, true, false, List, [], ◌∷◌, ℤ, pos, negsuc, None, codes}
+use Rattle.std.specs.Prelude.{ℕ, ◌*◌, true, false, List, [], ◌∷◌, ℤ, pos, negsuc, None, codes}
 use Rattle.std.specs.List.{flat_map}
 use Rattle.index_maps.specs.declared.map.IndexMap.TheVariants.{Linear}
 use Rattle.index_maps.specs.declared.map.PortMap.{PortMap}

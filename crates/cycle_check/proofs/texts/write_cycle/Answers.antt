@@ -1,6 +1,7 @@
 use Rattle.std.proofs.Common.{◌≡◌, take, codes}
 use Rattle.std.proofs.lemmas.List.{take_all}
-use Rattle.cycle_check.specs.CycleTexts.{cycle_text, ended, wait_line}
+use Rattle.music_base.specs.Lines.{ended}
+use Rattle.cycle_check.specs.CycleTexts.{cycle_text, wait_line}
 use Rattle.cycle_check.proofs.JoinedLines.{one_line_more}
 use Rattle.cycle_check.proofs.texts.write_cycle.Goals as goal
 

@@ -1,7 +1,7 @@
 use Rattle.std.proofs.Common.{[], ◌∷◌, ◌++◌, length, append_assoc, sym}
 use Rattle.std.specs.Fmt.{decimal}
 use Rattle.std.specs.Prelude.{codes}
-use Rattle.scene_model.specs.Logs.{line_end}
+use Rattle.music_base.specs.Lines.{line_end}
 use Rattle.music_cli.specs.Answers.{ok_text}
 use Rattle.music_cli.proofs.checking.ok_text.Goals as goal
 

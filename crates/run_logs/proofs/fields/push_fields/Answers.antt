@@ -1,7 +1,8 @@
 use Rattle.std.proofs.Common.{◌≡◌, List, ℕ, [], ◌∷◌, ◌++◌, refl, ap, ◌∙◌}
 use Rattle.std.specs.Fmt.{decimal}
 use Rattle.std.specs.List.{join_with_byte}
-use Rattle.scene_model.specs.Logs.{comma, line_end, line_of}
+use Rattle.music_base.specs.Lines.{line_end}
+use Rattle.scene_model.specs.Logs.{comma, line_of}
 use Rattle.scene_model.specs.Scenes.{app_at, port_at}
 use Rattle.scene_model.specs.declared.scene.Scene.{Scene}
 use Rattle.scene_model.specs.declared.row.Row.{Row}
