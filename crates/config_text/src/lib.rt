@@ -26,7 +26,6 @@ pub use laws::{canonical_reading, comment_reading, lawful_reading, one_reading};
 pub use lines::{LONGEST_TEXT, split_line};
 pub use link_text::LinkText;
 pub use links::Links;
-pub use parts::is_value;
 pub use reading::read_config;
 pub use sections::Sections;
 pub use settings::Settings;

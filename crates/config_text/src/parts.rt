@@ -167,10 +167,3 @@ pub fn name_in(text: &[u8]) -> Result<&[u8], TextKind>
         Err(TextKind::BadName)
     }
 }
-
-/// Whether a setting may be given the bytes: tabs and 0x20 to 0x7E, without a quotation mark.
-pub fn is_value(bytes: &[u8]) -> bool
-    ensures { result ≡ is_value bytes.now }
-{
-    is_text(bytes) && !has(bytes, b'"')
-}

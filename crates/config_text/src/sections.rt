@@ -69,16 +69,6 @@ impl Sections {
         }
     }
 
-    /// The settings of the last section.
-    pub fn last(&self) -> Option<&Settings>
-        ensures { option_copied result ≡ last_value self.now }
-    {
-        match self.entries.last() {
-            None => None,
-            Some((_, settings)) => Some(settings),
-        }
-    }
-
     /// Appends a section of a new name, where there are fewer than 32. Where memory is wanting the sections stay as they
     /// were.
     pub fn push(&mut self, name: Name, settings: Settings) -> Result<(), NoMemory>
@@ -91,19 +81,6 @@ impl Sections {
         let _name = name.as_slice();
         let _settings = settings.len();
         self.entries.insert(name, settings)?;
-        Ok(())
-    }
-
-    /// Appends a setting of a new name to the last section, where there is one. The value is one that `is_value` finds to
-    /// be one. Where memory is wanting the sections stay as they were.
-    pub fn push_setting(&mut self, name: Name, value: Word) -> Result<(), NoMemory>
-        requires some { 0 < length self.old }
-        requires value { is_value value ≡ true }
-        requires absent { IfSome (last_value self.old) (λ settings. value_of settings name ≡ None) }
-        ensures ok { OnOk result (self.new ≡ onto_last (name, value) self.old) }
-        ensures err { OnErr result (self.new ≡ self.old) }
-    {
-        self.insert_setting(name, value)?;
         Ok(())
     }
 }

@@ -45,19 +45,6 @@ impl Settings {
         self.entries.len()
     }
 
-    pub fn is_empty(&self) -> bool
-        ensures { result ≡ (length self.now == 0) }
-    {
-        self.entries.is_empty()
-    }
-
-    /// Whether the name stands among them.
-    pub fn contains(&self, name: &Name) -> bool
-        ensures { result ≡ is_some (value_of self.now name.now) }
-    {
-        self.entries.contains_key(name)
-    }
-
     /// The value of the name, where it stands among them.
     pub fn get(&self, name: &Name) -> Option<&Word>
         ensures { option_copied result ≡ value_of self.now name.now }
@@ -74,19 +61,6 @@ impl Settings {
             Some(pair) => pair,
             None => unreachable!(),
         }
-    }
-
-    /// Appends a setting of a new name, with a value that `is_value` finds to be one. Where memory is wanting the settings
-    /// stay as they were.
-    pub fn push(&mut self, name: Name, value: Word) -> Result<(), NoMemory>
-        requires absent { value_of self.old name ≡ None }
-        requires value { is_value value ≡ true }
-        ensures ok { OnOk result (self.new ≡ self.old ++ (name, value) ∷ []) }
-        ensures err { OnErr result (self.new ≡ self.old) }
-        ensures lawful { are_settings self.new ≡ true }
-    {
-        self.insert(name, value)?;
-        Ok(())
     }
 }
 
