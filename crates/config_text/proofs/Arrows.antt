@@ -1,9 +1,8 @@
 -- The first arrow, found byte by byte.
-use Rattle.std.proofs.Common.{◌≡◌, ℕ, ◌+◌, ◌-◌, ◌<◌, ◌≤◌, true, false, eqb, List, [], ◌∷◌, ◌++◌, length, take, drop, get_or, Option, Some, None, refl, sym, ap, ◌∙◌, arith, append_assoc}
+use Rattle.std.proofs.Common.{◌≡◌, ℕ, ◌+◌, ◌<◌, true, false, eqb, List, [], ◌∷◌, ◌++◌, length, take, drop, get_or, Option, Some, None, refl, sym, ap, ◌∙◌, arith, append_assoc}
 use Rattle.std.specs.Option.{option_map}
 use Rattle.std.specs.List.{starts_with}
-use Rattle.std.proofs.lemmas.Bool.{and_parts, true≢false}
-use Rattle.std.proofs.lemmas.List.{length-drop, take_more, drop_more, drop_all, append-nil, drop-drop}
+use Rattle.std.proofs.lemmas.List.{take_more, drop_more, append-nil, drop-drop}
 use Rattle.config_text.specs.Bytes.{arrow}
 use Rattle.config_text.specs.Connections.{split_at_arrow}
 
@@ -21,13 +20,6 @@ option_map-same f g (Some p) same = ap (λ (x : List ℕ × List ℕ). Some x) (
 option_map-map : (f g : List ℕ × List ℕ → List ℕ × List ℕ) (o : Option (List ℕ × List ℕ)) → option_map f (option_map g o) ≡ option_map (λ p. f (g p)) o
 option_map-map f g None = refl
 option_map-map f g (Some p) = refl
-
-pub arrow_none : (bytes : List ℕ) → IsBeforeArrow bytes 0
-arrow_none bytes = record { so_far = id (split_at_arrow bytes) }
-  where
-    id : (o : Option (List ℕ × List ℕ)) → option_map (front_onto []) o ≡ o
-    id None = refl
-    id (Some p) = refl
 
 pub arrow_goes : (bytes : List ℕ) (i : ℕ) → i < length bytes → starts_with eqb (drop i bytes) arrow ≡ false → IsBeforeArrow bytes i → IsBeforeArrow bytes (i + 1)
 arrow_goes bytes i lt plain so_far =
@@ -52,15 +44,3 @@ arrow_here bytes i lt here so_far =
     let rest : split_at_arrow (drop i bytes) ≡ Some ([], drop (i + 2) bytes) =
     ap split_at_arrow e ∙ rw (rw e at here) (ap (λ (x : List ℕ). Some ([], x)) (drop-drop 1 (i + 1) bytes ∙ ap (λ (n : ℕ). drop n bytes) (omega arith))) in
     sym (ap (λ (o : Option (List ℕ × List ℕ)). option_map (front_onto (take i bytes)) o) rest ∙ ap (λ (x : List ℕ). Some (x, drop (i + 2) bytes)) (append-nil (take i bytes))) ∙ so_far.so_far
-
-pub arrow_never : (bytes : List ℕ) (i : ℕ) → length bytes ≤ i → IsBeforeArrow bytes i → None ≡ split_at_arrow bytes
-arrow_never bytes i le so_far = rw (drop_all i bytes le) at so_far.so_far
-
--- an arrow takes two bytes
-pub arrow_fits : (bytes : List ℕ) (i : ℕ) → starts_with eqb (drop i bytes) arrow ≡ true → i + 2 ≤ length bytes
-arrow_fits bytes i here = two (drop i bytes) here (length-drop i bytes)
-  where
-    two : (xs : List ℕ) → starts_with eqb xs arrow ≡ true → length xs ≡ length bytes - i → i + 2 ≤ length bytes
-    two [] h e = absurd (true≢false (sym h))
-    two (x ∷ []) h e = absurd (true≢false (sym (and_parts (eqb 45 x) false h).1))
-    two (x ∷ y ∷ xs) h e = omega arith

@@ -1,6 +1,6 @@
 -- The comment of a line, found byte by byte.
-use Rattle.std.proofs.Common.{◌≡◌, ℕ, ◌+◌, ◌<◌, ◌≤◌, Bool, true, false, not, cond, ◌&&◌, List, [], ◌∷◌, ◌++◌, length, take, drop, get_or, refl, sym, ap, ◌∙◌, append_assoc}
-use Rattle.std.proofs.lemmas.List.{take_all, take_more, drop_more, drop_all, append-nil}
+use Rattle.std.proofs.Common.{◌≡◌, ℕ, ◌+◌, ◌<◌, Bool, true, false, not, cond, ◌&&◌, List, [], ◌∷◌, ◌++◌, length, take, drop, get_or, refl, sym, ap, ◌∙◌, append_assoc}
+use Rattle.std.proofs.lemmas.List.{take_more, drop_more, append-nil}
 use Rattle.config_text.specs.Bytes.{is_comment_sign, is_quote}
 use Rattle.config_text.specs.Parts.{before_comment_after, before_comment}
 
@@ -21,7 +21,3 @@ comment_goes line even next i lt plain e so_far =
       so_far = rw (take_more line i 0 lt, append_assoc (take i line) (get_or line i 0 ∷ []) (before_comment_after next (drop (i + 1) line)))
           (ap (λ (x : List ℕ). take i line ++ x) (sym rest) ∙ so_far.so_far);
     }
-
-pub comment_none : (line : List ℕ) (even : Bool) (i : ℕ) → length line ≤ i → IsBeforeComment line even i → line ≡ before_comment line
-comment_none line even i le so_far =
-    rw (drop_all i line le, take_all i line le, append-nil line) at so_far.so_far

@@ -1,7 +1,6 @@
 -- The last of a list of pairs.
-use Rattle.std.proofs.Common.{◌≡◌, ℕ, suc, ◌-◌, ◌<◌, List, [], ◌∷◌, ◌++◌, length, Option, Some, None, refl, sym, ap, subst, ◌∙◌, arith}
+use Rattle.std.proofs.Common.{◌≡◌, ℕ, suc, ◌-◌, List, [], ◌∷◌, ◌++◌, length, Some, refl, sym, ap, ◌∙◌, arith}
 use Rattle.std.specs.Prelude.{slice_get, Result, Ok, Err, OnOk, OnErr}
-use Rattle.std.specs.Option.{option_map, IfSome}
 use Rattle.std.specs.Map.{values_of}
 use Rattle.indexmap.specs.IndexMap.{set_value_at}
 use Rattle.config_text.specs.Pairs.{last_value, onto_last}
@@ -19,22 +18,8 @@ set_last (s ∷ t ∷ es) old new setting is e =
     let i : suc (suc (length es)) - 1 ≡ suc (suc (length es) - 1) = omega arith in
     rw i (ap (λ (l : List (List ℕ × List (List ℕ × List ℕ))). s ∷ l) (set_last (t ∷ es) old new setting is e))
 
--- what is said of the last value
-pub of_last : {X : Type 0} (P : X → Type 0) (es fs : List (List ℕ × X)) (x : X) → es ≡ fs → Some x ≡ slice_get (values_of es) (length es - 1) → IfSome (last_value fs) P → P x
-of_last {X} P es fs x same is h =
-    let e : Some x ≡ last_value fs = is ∙ last_of_values es ∙ ap last_value same in
-    subst (λ (o : Option X). IfSome o P) (sym e) h
-
 pub found_last : {X : Type 0} (es : List (List ℕ × X)) (x : X) → Some x ≡ slice_get (values_of es) (length es - 1) → last_value es ≡ Some x
 found_last es x is = sym (is ∙ last_of_values es)
-
-pub some_last : {X : Type 0} (es : List (List ℕ × X)) → 0 < length es → None ≡ slice_get (values_of es) (length es - 1) → ⊥
-some_last [] some is = omega arith
-some_last (e ∷ es) some is = go e es (is ∙ last_of_values (e ∷ es))
-  where
-    go : {X : Type 0} (e : List ℕ × X) (es : List (List ℕ × X)) → None ≡ last_value (e ∷ es) → ⊥
-    go e [] is = cc
-    go e (f ∷ es) is = go f es is
 
 pub on_ok : {T E : Type 0} (r : Result T E) (P Q : Type 0) → (P → Q) → OnOk r P → OnOk r Q
 on_ok (Ok x) P Q f h = f h
@@ -43,11 +28,3 @@ on_ok (Err e) P Q f h = h
 pub on_err : {T E : Type 0} (r : Result T E) (P Q : Type 0) → (P → Q) → OnErr r P → OnErr r Q
 on_err (Ok x) P Q f h = h
 on_err (Err e) P Q f h = f h
-
-pub last_entry : {X : Type 0} (es : List (List ℕ × X)) (e : List ℕ × X) → Some e ≡ slice_get es (length es - 1) → Some e.1 ≡ last_value es
-last_entry {X} es e is = ap (λ (o : Option (List ℕ × X)). option_map (λ p. p.1) o) is ∙ second es
-  where
-    second : (es : List (List ℕ × X)) → option_map (λ p. p.1) (slice_get es (length es - 1)) ≡ last_value es
-    second [] = refl
-    second (e ∷ []) = refl
-    second (e ∷ f ∷ es) = let i : suc (suc (length es)) - 1 ≡ suc (suc (length es) - 1) = omega arith in rw i (second (f ∷ es))

@@ -45,12 +45,6 @@ count-span g span = elim (cases_eq span.size 0) [
       (count_by-cons (holds g) (record { first = span.base; after = span.base + span.size }) [] ∙ omega arith)
 ]
 
-pub some-span : (span : Extent) → list_all is_some_interval (span_of span) ≡ true
-some-span span = elim (cases_eq span.size 0) [
-  | inl none ↦ rw (none) refl
-  | inr some ↦ rw (ne_eqb span.size 0 some, lt-ltb span.base (span.base + span.size) (omega (arith, some))) refl
-]
-
 -- ---- what intervals that do not touch hold
 
 has-interval : (g : ℕ) (interval : Interval) → interval.first < interval.after → has g (interval_indices interval) ≡ holds g interval
