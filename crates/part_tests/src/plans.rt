@@ -1,13 +1,14 @@
 //! The limits of scenes, where there is enough memory.
-ghost use Rattle.std.specs.Prelude.{IfOk};
+ghost use Rattle.std.specs.Prelude.{All, IfOk};
 ghost use Rattle.scene_model.specs.Faults.{IsFaultless};
+ghost use Rattle.scene_model.specs.Waits.{IsLawfulLimit};
 
 use config_text::read_config;
 use music_base::NoMemory;
 use music_setup::{SetupFault, read_scene};
 use scene_model::Scene;
 use std::alloc::Global;
-use tick_plan::{NegotiateFault, Plan, negotiate, plan_fits};
+use tick_plan::{NegotiateFault, Plan, cover, negotiate, plan_fits};
 
 /// Events may come five ticks late over the second connection.
 pub const TWO_LATENCIES: &[u8] = b"stoptime=0.01
@@ -87,6 +88,28 @@ fn waits_told(alloc: Global, text: &[u8]) -> Option<usize> {
         Err(NegotiateFault::Uncovered(cycle)) => Some(cycle.0.len()),
         _ => None,
     }
+}
+
+/// How many potentials cover the waits of the scene of the text under these limits.
+fn potentials_found(alloc: Global, text: &[u8], limits: &[Option<u64>]) -> Option<usize>
+    requires { All IsLawfulLimit limits.now }
+{
+    let Ok(scene) = scene_of(alloc, text) else {
+        return None;
+    };
+    if limits.len() != scene.links.len() {
+        return None;
+    }
+    match cover(alloc, &scene, limits) {
+        Ok(potentials) => Some(potentials.len()),
+        Err(_) => None,
+    }
+}
+
+#[test]
+fn there_is_a_potential_for_each_application(rt: HostRuntime) {
+    assert!(rt; potentials_found(rt.alloc(), TWO_LATENCIES, &[None, Some(4)]) == Some(2));
+    assert!(rt; potentials_found(rt.alloc(), TWO_LATENCIES, &[None, Some(3)]) == None);
 }
 
 #[test]
