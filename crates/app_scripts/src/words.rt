@@ -24,8 +24,8 @@ ghost use Rattle.app_scripts.specs.Forms.{
   time_word,
 };
 
-use music_base::{is_name, read_time};
-use text_words::{around, count_up_to, fixed, is_key, signed_within, split_word};
+use music_base::{count_up_to, is_name, read_time};
+use text_words::{around, fixed, is_key, signed_within, split_word};
 
 /// How far from zero the shift of an index may lie.
 const GREATEST_SHIFT: u32 = 65_535;

@@ -5,7 +5,8 @@ use Rattle.std.proofs.lemmas.Bool.{and_parts, or_parts, eq-eqb, true≢false}
 use Rattle.std.proofs.lemmas.List.{length-append, append-nil, get_or-append_right}
 use Rattle.std.proofs.lemmas.List.Sums.{AllPass-from_list_all}
 use Rattle.music_base.specs.Names.{is_name, is_in_names}
-use Rattle.config_text.specs.Bytes.{is_blank, is_text_byte, is_quote, is_comment_sign}
+use Rattle.music_base.specs.Blanks.{is_blank}
+use Rattle.config_text.specs.Bytes.{is_text_byte, is_quote, is_comment_sign}
 use Rattle.config_text.specs.Parts.{without_cr, before_comment_after, before_comment, without_trailing_blanks, trimmed, begins_with_blank, ends_with_blank, ends_in}
 use Rattle.config_text.specs.Contents.{content_in, content_of}
 use Rattle.config_text.proofs.NameBytes.{name_byte_misses, name_parts}

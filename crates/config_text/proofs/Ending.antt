@@ -4,7 +4,8 @@ use Rattle.std.specs.Prelude.{Ok, Err}
 use Rattle.std.specs.List.{list_any, before_first, after_first}
 use Rattle.music_base.specs.Names.{is_name}
 use Rattle.config_text.specs.declared.text_kind.TextKind.TheVariants.{BadName}
-use Rattle.config_text.specs.Bytes.{is_point, is_quote, is_open_bracket}
+use Rattle.music_base.specs.Times.{is_point}
+use Rattle.config_text.specs.Bytes.{is_quote, is_open_bracket}
 use Rattle.config_text.specs.Parts.{trimmed}
 use Rattle.config_text.specs.Connections.{end_in, connection_between, connection_with_width, connection_without_width}
 

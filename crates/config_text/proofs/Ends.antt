@@ -4,7 +4,7 @@ use Rattle.std.specs.List.{prefix_len, suffix_len}
 use Rattle.std.proofs.lemmas.Bool.{and_parts, cases_Bool, ltb-true, lt-ltb, ne_eqb, eq-eqb, true≢false}
 use Rattle.std.proofs.lemmas.List.{length-append, take-append-le, take_all, take_more, reverse-append}
 use Rattle.std.proofs.lemmas.List.Sums.{suffix_len-le-length}
-use Rattle.config_text.specs.Bytes.{is_blank}
+use Rattle.music_base.specs.Blanks.{is_blank}
 use Rattle.config_text.specs.Parts.{without_cr, without_leading_blanks, without_trailing_blanks, begins_with_blank, ends_with_blank}
 
 pub last_apart : (xs : List ℕ) → 0 < length xs → xs ≡ take (length xs - 1) xs ++ get_or xs (length xs - 1) 0 ∷ []

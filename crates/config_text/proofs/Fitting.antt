@@ -8,7 +8,8 @@ use Rattle.std.proofs.lemmas.Bool.{and_parts, and_from}
 use Rattle.music_base.specs.Names.{is_name}
 use Rattle.config_text.specs.declared.text_kind.TextKind.{TextKind}
 use Rattle.config_text.specs.declared.text_kind.TextKind.TheVariants.{Unbuilt}
-use Rattle.config_text.specs.Bytes.{close_bracket, is_quote, is_equals, is_point, is_open_bracket, is_text_byte}
+use Rattle.music_base.specs.Times.{is_point}
+use Rattle.config_text.specs.Bytes.{close_bracket, is_quote, is_equals, is_open_bracket, is_text_byte}
 use Rattle.config_text.specs.Parts.{◌>>=◌, without_cr, before_comment, trimmed, ends_in, between_ends, without_last, name_in, is_value}
 use Rattle.music_base.specs.Counts.{is_count}
 use Rattle.config_text.specs.Connections.{split_at_arrow, end_in, width_in, most_width, link_between, connection_with_width, connection_without_width, connection_between, connection_at, connection_in, is_width, is_link}

@@ -10,7 +10,8 @@ use Rattle.music_base.specs.Names.{is_name, is_in_names}
 use Rattle.music_base.proofs.FirstPlaces.{before_first-at, after_first-at}
 use Rattle.config_text.specs.declared.text_kind.TextKind.{TextKind}
 use Rattle.config_text.specs.declared.text_kind.TextKind.TheVariants.{BadByte, BadName, BadLine}
-use Rattle.config_text.specs.Bytes.{equals, is_blank, is_text_byte, is_quote, is_comment_sign, is_equals, is_open_bracket}
+use Rattle.music_base.specs.Blanks.{is_blank}
+use Rattle.config_text.specs.Bytes.{equals, is_text_byte, is_quote, is_comment_sign, is_equals, is_open_bracket}
 use Rattle.config_text.specs.Parts.{◌>>=◌, without_cr, before_comment_after, before_comment, without_leading_blanks, without_trailing_blanks, trimmed, begins_with_blank, ends_with_blank, between_ends, name_in}
 use Rattle.config_text.specs.Connections.{split_at_arrow}
 use Rattle.config_text.specs.Contents.{Content, setting, is_quoted, value_in, is_setting, setting_in, content_in, content_of}

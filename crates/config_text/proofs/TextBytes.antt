@@ -2,7 +2,8 @@
 use Rattle.std.proofs.Common.{◌≡◌, ℕ, zero, suc, ◌-◌, Bool, true, false, not, List, [], ◌∷◌, length, take, drop, refl}
 use Rattle.std.specs.List.{list_all, list_any, prefix_len}
 use Rattle.std.proofs.lemmas.Bool.{and_parts, and_from, not_from_false}
-use Rattle.config_text.specs.Bytes.{is_text_byte, is_blank, is_quote}
+use Rattle.music_base.specs.Blanks.{is_blank}
+use Rattle.config_text.specs.Bytes.{is_text_byte, is_quote}
 use Rattle.config_text.specs.Parts.{trimmed, is_value, between_ends, without_leading_blanks}
 use Rattle.config_text.specs.Contents.{is_quoted}
 

@@ -11,7 +11,9 @@ use Rattle.std.proofs.lemmas.Bool.{and_parts, and_from, or_from, or_parts, or_le
 use Rattle.std.proofs.lemmas.List.{length-append, take_at, append-nil}
 use Rattle.std.proofs.lemmas.List.Sums.{AllPass-from_list_all}
 use Rattle.music_base.specs.Names.{is_name, is_in_names}
-use Rattle.config_text.specs.Bytes.{space, point, open_bracket, close_bracket, arrow, is_blank, is_text_byte, is_quote, is_comment_sign, is_equals, is_point, is_open_bracket}
+use Rattle.music_base.specs.Blanks.{space, is_blank}
+use Rattle.music_base.specs.Times.{point, is_point}
+use Rattle.config_text.specs.Bytes.{open_bracket, close_bracket, arrow, is_text_byte, is_quote, is_comment_sign, is_equals, is_open_bracket}
 use Rattle.config_text.specs.Parts.{◌>>=◌, before_comment_after, without_trailing_blanks, trimmed, begins_with_blank, ends_with_blank, ends_in}
 use Rattle.config_text.specs.declared.link_text.LinkText.{LinkText}
 use Rattle.music_base.specs.Counts.{is_count}

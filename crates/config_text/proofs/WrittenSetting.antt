@@ -5,7 +5,8 @@ use Rattle.std.specs.List.{list_any, list_all, before_first, after_first}
 use Rattle.std.proofs.lemmas.Bool.{and_parts, and_from, or_parts, le-leb, lt-ltb, cases_Bool, not-true, true≢false}
 use Rattle.std.proofs.lemmas.List.{length-append, take_at, append-nil}
 use Rattle.music_base.specs.Names.{is_name, is_in_names}
-use Rattle.config_text.specs.Bytes.{quote, equals, open_bracket, close_bracket, is_blank, is_text_byte, is_quote, is_comment_sign, is_equals, is_open_bracket}
+use Rattle.music_base.specs.Blanks.{is_blank}
+use Rattle.config_text.specs.Bytes.{quote, equals, open_bracket, close_bracket, is_text_byte, is_quote, is_comment_sign, is_equals, is_open_bracket}
 use Rattle.config_text.specs.Parts.{before_comment_after, trimmed, begins_with_blank, ends_with_blank, ends_in, between_ends, name_in, is_value}
 use Rattle.config_text.specs.Connections.{split_at_arrow}
 use Rattle.config_text.specs.Contents.{section, setting, is_quoted, value_in, is_setting, setting_in, content_in, content_of}

@@ -1,15 +1,10 @@
 -- The bytes that mean something in the text, by name.
 use Rattle.std.specs.Prelude.{ℕ, Bool, ◌||◌, ◌==◌, List, codes}
 use Rattle.std.specs.Int.{is_in_range}
-
-abbrev pub tab : ℕ
-tab = 9
+use Rattle.music_base.specs.Blanks.{tab}
 
 abbrev pub carriage_return : ℕ
 carriage_return = 13
-
-abbrev pub space : ℕ
-space = 32
 
 -- '"'
 abbrev pub quote : ℕ
@@ -18,10 +13,6 @@ quote = 34
 -- '#'
 abbrev pub comment_sign : ℕ
 comment_sign = 35
-
--- '.'
-abbrev pub point : ℕ
-point = 46
 
 -- '='
 abbrev pub equals : ℕ
@@ -45,18 +36,11 @@ is_quote b = b == quote
 abbrev pub is_comment_sign : ℕ → Bool
 is_comment_sign b = b == comment_sign
 
-abbrev pub is_point : ℕ → Bool
-is_point b = b == point
-
 abbrev pub is_equals : ℕ → Bool
 is_equals b = b == equals
 
 abbrev pub is_open_bracket : ℕ → Bool
 is_open_bracket b = b == open_bracket
-
--- a space or a tab
-abbrev pub is_blank : ℕ → Bool
-is_blank b = (b == space) || (b == tab)
 
 -- a tab, or 0x20 to 0x7E: what may stand outside a comment
 abbrev pub is_text_byte : ℕ → Bool

@@ -9,7 +9,9 @@ use Rattle.music_base.specs.Names.{is_name}
 use Rattle.config_text.specs.declared.link_text.LinkText.{LinkText}
 use Rattle.config_text.specs.declared.text_kind.TextKind.{TextKind}
 use Rattle.config_text.specs.declared.text_kind.TextKind.TheVariants.{BadLine, BadName, BadWidth}
-use Rattle.config_text.specs.Bytes.{arrow, space, point, open_bracket, close_bracket, is_quote, is_point, is_open_bracket}
+use Rattle.music_base.specs.Blanks.{space}
+use Rattle.music_base.specs.Times.{point, is_point}
+use Rattle.config_text.specs.Bytes.{arrow, open_bracket, close_bracket, is_quote, is_open_bracket}
 use Rattle.config_text.specs.Parts.{◌>>=◌, trimmed, ends_in, without_last}
 use Rattle.music_base.specs.Counts.{is_count}
 

@@ -4,7 +4,8 @@ use Rattle.std.specs.List.{count_by, list_any, list_all, prefix_len, suffix_len}
 use Rattle.music_base.specs.Names.{is_name}
 use Rattle.config_text.specs.declared.text_kind.TextKind.{TextKind}
 use Rattle.config_text.specs.declared.text_kind.TextKind.TheVariants.{BadName}
-use Rattle.config_text.specs.Bytes.{carriage_return, is_blank, is_comment_sign, is_quote, is_text_byte}
+use Rattle.music_base.specs.Blanks.{is_blank}
+use Rattle.config_text.specs.Bytes.{carriage_return, is_comment_sign, is_quote, is_text_byte}
 
 -- what the second part spells beside the first one, or the first fault of the two
 infixl 10 ◌>>=◌

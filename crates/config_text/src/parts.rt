@@ -2,12 +2,13 @@
 
 ghost use Rattle.std.specs.Prelude.{◌≡◌, ◌==◌, ◌+◌, ◌<◌, ◌≤◌, ◌&&◌, ◌∷◌, ◌++◌, nat_lt, length, IfOk, IfSome, is_some, true};
 ghost use Rattle.std.specs.List.{position, position_or_len, list_all, list_any, before_first, after_first};
-ghost use Rattle.config_text.specs.Bytes.{close_bracket, is_blank, is_text_byte, is_quote};
+ghost use Rattle.music_base.specs.Blanks.{is_blank};
+ghost use Rattle.config_text.specs.Bytes.{close_bracket, is_text_byte, is_quote};
 ghost use Rattle.config_text.specs.Parts.{without_cr, before_comment, trimmed, without_leading_blanks, without_trailing_blanks, begins_with_blank, ends_with_blank, ends_in, between_ends, without_last, name_in, is_value};
 ghost use Rattle.config_text.specs.Inner.{Gives};
 
 use crate::TextKind;
-use music_base::{byte_place, is_name};
+use music_base::{byte_place, is_blank, is_name};
 
 /// The line without one CR at its end.
 pub fn without_cr(line: &[u8]) -> &[u8]
@@ -51,12 +52,6 @@ pub fn trimmed(bytes: &[u8]) -> &[u8]
     ensures { result.now ≡ trimmed bytes.now }
 {
     without_trailing_blanks(without_leading_blanks(bytes))
-}
-
-fn is_blank(byte: u8) -> bool
-    ensures { result ≡ is_blank byte }
-{
-    byte == b' ' || byte == b'\t'
 }
 
 fn without_leading_blanks(bytes: &[u8]) -> &[u8]

@@ -1,3 +1,4 @@
+pub mod Blanks
 pub mod Causes
 pub mod Clocks
 pub mod Counts

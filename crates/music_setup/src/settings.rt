@@ -11,9 +11,9 @@ ghost use Rattle.music_setup.specs.Apps.{is_script, np_in, stop_in, tick_in, tim
 
 use crate::SceneFault;
 use config_text::{Config, lookup};
-use music_base::{Name, Nanos, NoMemory, Word, read_time};
+use music_base::{Name, Nanos, NoMemory, Word, count_up_to, read_time};
 use std::alloc::Global;
-use text_words::{count_up_to, is_key};
+use text_words::is_key;
 
 /// How many processes an application has at most.
 const MOST_RANKS: u32 = 64;

@@ -1,7 +1,6 @@
 //! Pieces and words of a value, and the small numbers that words spell.
-use text_words::{
-    around, count_up_to, cut_at, fixed, is_key, signed_within, split_declaration, split_word,
-};
+use music_base::count_up_to;
+use text_words::{around, cut_at, fixed, is_key, signed_within, split_declaration, split_word};
 
 /// Words, and the count up to 65,535, the number within 65,535 of 0 and the millionths that each spells.
 const NUMBERS: &[(&[u8], Option<u32>, Option<i64>, Option<i64>)] = &[

@@ -5,8 +5,7 @@ ghost use Rattle.plain_run.specs.FormLines.{section_line, other_section_line, st
 ghost use Rattle.plain_run.specs.FormViews.{seen_port, seen_rule, seen_link};
 
 use crate::form_words::{behind, cut_at, name_before, time_behind, time_in};
-use music_base::{Nanos, steps_of};
-use text_words::count_up_to;
+use music_base::{Nanos, count_up_to, steps_of};
 
 /// The longest tick, in nanoseconds.
 const LONGEST_TICK: u64 = 1_000_000_000_000;

@@ -10,10 +10,10 @@ ghost use Rattle.port_table.specs.MapWords.{index_list, map_in, first_repeat_in,
 
 use crate::map_words::{GREATEST_INDEX, has_byte, span_in, split_span};
 use index_maps::{IndexMap, MapFault, PortMap, Span, permutation};
-use music_base::{Items, NoMemory};
+use music_base::{Items, NoMemory, count_up_to};
 use scene_model::Direction;
 use std::alloc::Global;
-use text_words::{count_up_to, cut_at};
+use text_words::cut_at;
 
 /// The indices of a list, in which one may come twice.
 #[tactic(auto, unfolding(crate::specs::MapWords::index_list))]

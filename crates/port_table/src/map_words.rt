@@ -6,7 +6,8 @@ ghost use Rattle.text_words.specs.Parts.{is_byte, parts};
 ghost use Rattle.port_table.specs.MapWords.{behind, index_list, map_in, rank_map, rank_maps, slash, span_in, split_span};
 
 use index_maps::{INDEX_LIMIT, Span};
-use text_words::{around, count_up_to, cut_at};
+use music_base::count_up_to;
+use text_words::{around, cut_at};
 
 /// The greatest index.
 pub const GREATEST_INDEX: u32 = 65_535;

@@ -4,9 +4,9 @@ ghost use Rattle.std.specs.Prelude.{◌≡◌, ◌≤◌, ◌∷◌, length, IfS
 ghost use Rattle.text_words.specs.Words.{words};
 ghost use Rattle.port_table.specs.Options.{time_in, latency_in, delay_in, buffered_in, interpolate_in, flag_in, valued_in, is_flag, options_in, no_options, takes_latency, takes_delay};
 
-use music_base::read_time;
+use music_base::{count_up_to, read_time};
 use scene_model::{Direction, PortKind};
-use text_words::{count_up_to, is_key, split_word};
+use text_words::{is_key, split_word};
 
 /// The options that stand in a declaration. Times are in ns.
 #[derive(Clone, Copy)]

@@ -5,7 +5,8 @@ use Rattle.std.specs.List.{position, position_or_len, slice_split}
 use Rattle.std.proofs.lemmas.Bool.{cases_Bool, lt-ltb, le-ltb, cases_lt}
 use Rattle.std.proofs.lemmas.List.{take_all, length-drop}
 use Rattle.std.proofs.lemmas.List.Splits.{slice_split_first}
-use Rattle.text_words.specs.Words.{is_blank, is_semicolon, words, declarations}
+use Rattle.music_base.specs.Blanks.{is_blank}
+use Rattle.text_words.specs.Words.{is_semicolon, words, declarations}
 use Rattle.text_words.specs.Parts.{with_some}
 
 -- what stands behind place i, as the code takes it

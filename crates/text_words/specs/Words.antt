@@ -1,18 +1,10 @@
 -- The value of a setting, cut into pieces between ';', and each piece into words between blanks.
-use Rattle.std.specs.Prelude.{ℕ, Bool, ◌||◌, ◌==◌, nat_lt, List, length, map}
+use Rattle.std.specs.Prelude.{ℕ, Bool, ◌==◌, nat_lt, List, length, map}
 use Rattle.std.specs.List.{filter, slice_split}
-
-abbrev pub space : ℕ
-space = 32
-
-abbrev pub tab : ℕ
-tab = 9
+use Rattle.music_base.specs.Blanks.{is_blank}
 
 abbrev pub semicolon : ℕ
 semicolon = 59
-
-abbrev pub is_blank : ℕ → Bool
-is_blank b = (b == space) || (b == tab)
 
 abbrev pub is_semicolon : ℕ → Bool
 is_semicolon b = b == semicolon

@@ -1,5 +1,6 @@
 ghost use Rattle.std.specs.Prelude.{◌≡◌, ℕ, [], ◌∷◌, ◌++◌, List, Some, None, Result, Ok, Err, pos, neg_ℤ, codes};
-ghost use Rattle.text_words.specs.Words.{words, declarations, tab};
+ghost use Rattle.music_base.specs.Blanks.{tab};
+ghost use Rattle.text_words.specs.Words.{words, declarations};
 ghost use Rattle.music_base.specs.Counts.{count_up_to};
 ghost use Rattle.text_words.specs.Numbers.{signed_within, fixed};
 ghost use Rattle.text_words.specs.InTurn.{in_turn, IsFirst};

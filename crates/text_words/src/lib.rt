@@ -10,6 +10,5 @@ mod signed;
 pub use cut::{around, cut_at, is_key};
 pub use decimals::fixed;
 pub use laws::{first_faults, small_texts};
-pub use music_base::count_up_to;
 pub use pieces::{split_declaration, split_word};
 pub use signed::signed_within;

@@ -1,15 +1,16 @@
 //! The words of a piece, and the pieces of a value that have words, each lent from the front of what is left.
 ghost use Rattle.std.specs.Prelude.{◌≡◌, ◌<◌, ◌∷◌, [], length, IfSome, MatchOption};
 ghost use Rattle.std.specs.List.{position};
-ghost use Rattle.text_words.specs.Words.{is_blank, is_some_list, words, declarations};
+ghost use Rattle.music_base.specs.Blanks.{is_blank};
+ghost use Rattle.text_words.specs.Words.{is_some_list, words, declarations};
 ghost use Rattle.text_words.specs.Parts.{with_some};
 
-use music_base::byte_place;
+use music_base::{byte_place, is_blank};
 
 fn blank_place(bytes: &[u8]) -> Option<usize>
     ensures { result ≡ position is_blank bytes.now }
 {
-    bytes.iter().position(|b| *b == b' ' || *b == b'\t')
+    bytes.iter().position(|b| is_blank(*b))
 }
 
 /// What stands before the first blank, and what stands behind it.
