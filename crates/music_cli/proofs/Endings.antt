@@ -32,7 +32,7 @@ use Rattle.plain_run.specs.Plain as plain
 use Rattle.music_cli.specs.PlanTexts.{plan_text}
 use Rattle.music_cli.specs.Words.{command_of, are_accepted}
 use Rattle.music_cli.specs.Answers.{AnswersFault, AnswersUncovered, AnswersChecked, AnswersPlanned, AnswersScene, AnswersForm, AnswersConfig, AnswersText, AnswersCommand, Answers, CanDo, CanDoWith, number_of, status_of, outcomes_of, scene_outcomes, usage_text, read_fault_text, ok_text}
-use Rattle.music_cli.specs.Clauses.{Ends, ends, Untouched, Wrote, most_read, read_part, IsStatus, IsUsage, AnswersWhatWasRead, ReadAllThatCounts, WasRead, HasSomePrefix, HasAnswer, HasPrefix, IsComplete, IsSaid, IsGiven, IsRead, Ended, refused, unread, unfound, answered}
+use Rattle.music_cli.specs.Clauses.{Ends, ends, Untouched, Wrote, most_read, read_part, IsStatus, IsUsage, AnswersWhatWasRead, ReadAllThatCounts, WasRead, HasSomePrefix, HasAnswer, HasPrefix, IsComplete, IsSaid, IsGiven, IsRead, Ended, refused, source_failed, no_memory, answered}
 use Rattle.music_cli.specs.declared.command_line.Command.{Command}
 use Rattle.music_cli.specs.declared.command_line.Command.TheVariants.{Check, Plan, Run}
 use Rattle.music_cli.specs.declared.status.Status.{Status}
@@ -247,22 +247,22 @@ memory_outcome (Some Run) some = (4, lit< tt, refl)
 given_none : (P : Status → List ℕ → Type 0) (before : Option (List ℕ)) (faults : ℕ) → ((status : Status) × (text : List ℕ) × P status text) → IsGiven P (ends before before faults faults) NoMemory
 given_none P before faults answer = record { status = answer.0; text = answer.1; found_so = answer.2; cases = inr (inr refl); prefix = TookPrefix-nothing before answer.1 }
 
-pub form_unfound : (found : Result FirstForm (ℕ × TextKind)) (before : Option (List ℕ)) (faults : ℕ) → IsGiven (AnswersForm found) (ends before before faults faults) NoMemory
-form_unfound found before faults = given_none (AnswersForm found) before faults (form_answer found)
+pub form_no_memory : (found : Result FirstForm (ℕ × TextKind)) (before : Option (List ℕ)) (faults : ℕ) → IsGiven (AnswersForm found) (ends before before faults faults) NoMemory
+form_no_memory found before faults = given_none (AnswersForm found) before faults (form_answer found)
 
 -- where memory gave out before the scene was read
-pub checked_unread : (config : Config) (before : Option (List ℕ)) (faults : ℕ) → is_lawful_config config ≡ true
+pub checked_no_memory : (config : Config) (before : Option (List ℕ)) (faults : ℕ) → is_lawful_config config ≡ true
     → IsGiven (AnswersScene AnswersChecked config (scene_of config)) (ends before before faults faults) NoMemory
-checked_unread config before faults lawful =
+checked_no_memory config before faults lawful =
     given_none (AnswersScene AnswersChecked config (scene_of config)) before faults (scene_answer AnswersChecked config (scene_of config) checked_answer (lawful_is_faultless config lawful))
 
-pub planned_unread : (config : Config) (before : Option (List ℕ)) (faults : ℕ) → is_lawful_config config ≡ true
+pub planned_no_memory : (config : Config) (before : Option (List ℕ)) (faults : ℕ) → is_lawful_config config ≡ true
     → IsGiven (AnswersScene AnswersPlanned config (scene_of config)) (ends before before faults faults) NoMemory
-planned_unread config before faults lawful =
+planned_no_memory config before faults lawful =
     given_none (AnswersScene AnswersPlanned config (scene_of config)) before faults (scene_answer AnswersPlanned config (scene_of config) planned_answer (lawful_is_faultless config lawful))
 
-pub text_unfound : (command : Command) (bytes : List ℕ) (before : Option (List ℕ)) (faults : ℕ) → IsGiven (AnswersText command bytes) (ends before before faults faults) NoMemory
-text_unfound command bytes before faults = given_none (AnswersText command bytes) before faults (text_answer command bytes)
+pub text_no_memory : (command : Command) (bytes : List ℕ) (before : Option (List ℕ)) (faults : ℕ) → IsGiven (AnswersText command bytes) (ends before before faults faults) NoMemory
+text_no_memory command bytes before faults = given_none (AnswersText command bytes) before faults (text_answer command bytes)
 
 -- ---- what is said of a configuration
 
@@ -310,8 +310,8 @@ usage_outcome (Some command) none = absurd cc
 
 outcome : (words : List (List ℕ)) (source sink : Ends) (status : Status) → Ended words source sink status → Contains (outcomes_of (command_of words)) status
 outcome words source sink status (refused not_so untouched said) = outcome_of_said words Usage usage_text sink status (usage_outcome (command_of words) not_so) said
-outcome words source sink status (unread accepted failed said) = outcome_of_said words ReadFault read_fault_text sink status (read_fault_outcome (command_of words) accepted) said
-outcome words source sink status (unfound accepted memory same) = subst (Contains (outcomes_of (command_of words))) (sym memory) (memory_outcome (command_of words) accepted)
+outcome words source sink status (source_failed accepted failed said) = outcome_of_said words ReadFault read_fault_text sink status (read_fault_outcome (command_of words) accepted) said
+outcome words source sink status (no_memory accepted memory same) = subst (Contains (outcomes_of (command_of words))) (sym memory) (memory_outcome (command_of words) accepted)
 outcome words source sink status (answered accepted bytes read given) = elim given.cases [
   | inl done ↦ subst (Contains (outcomes_of (command_of words))) (sym done.0) (answer_outcome (command_of words) bytes given.status given.text given.found_so)
   | inr gave_out ↦ elim gave_out [
@@ -358,11 +358,11 @@ whole words source sink status (refused not_so untouched said) small = elim said
   | inl done ↦ inl (record { refused_so = not_so; untouched = untouched; is = done.0; wrote = done.1 })
   | inr fault ↦ absurd (too_great status WriteFault fault.0 (lit< tt) small)
 ]
-whole words source sink status (unread accepted failed said) small = elim said.cases [
+whole words source sink status (source_failed accepted failed said) small = elim said.cases [
   | inl done ↦ absurd (too_great status ReadFault done.0 (lit< tt) small)
   | inr fault ↦ absurd (too_great status WriteFault fault.0 (lit< tt) small)
 ]
-whole words source sink status (unfound accepted memory same) small = absurd (too_great status NoMemory memory (lit< tt) small)
+whole words source sink status (no_memory accepted memory same) small = absurd (too_great status NoMemory memory (lit< tt) small)
 whole words source sink status (answered accepted bytes read given) small = elim given.cases [
   | inl done ↦ inr (record { accepted_so = accepted; bytes = bytes; read = read; found = given.status; text = given.text; is = ap number_of done.0; answers = given.found_so; wrote = done.1 })
   | inr gave_out ↦ elim gave_out [
@@ -382,8 +382,8 @@ has_answer words source sink status ended all is small = elim (whole words sourc
 pub has_prefix : (words : List (List ℕ)) (source sink : Ends) (status : Status) → Ended words source sink status → HasPrefix words source sink (number_of status)
 has_prefix words source sink status (refused not_so untouched said) all is gave_out =
     (usage_text, inl (Usage, usage_answer (command_of words) (read_part all) not_so), said.prefix)
-has_prefix words source sink status (unread accepted failed said) all is gave_out = (read_fault_text, inr (refl, failed), said.prefix)
-has_prefix words source sink status (unfound accepted memory same) all is gave_out =
+has_prefix words source sink status (source_failed accepted failed said) all is gave_out = (read_fault_text, inr (refl, failed), said.prefix)
+has_prefix words source sink status (no_memory accepted memory same) all is gave_out =
     let answer : (status : Status) × (text : List ℕ) × Answers words (read_part all) status text = some_answer (command_of words) (read_part all) in
     (answer.1, inl (answer.0, answer.2), subst (λ (after : Option (List ℕ)). TookPrefix sink.before answer.1 after) (sym same) (TookPrefix-nothing sink.before answer.1))
 has_prefix words source sink status (answered accepted bytes read given) all is gave_out =
@@ -393,8 +393,8 @@ has_prefix words source sink status (answered accepted bytes read given) all is 
 pub is_complete : (words : List (List ℕ)) (source sink : Ends) (status : Status) → Ended words source sink status → IsComplete words source sink (number_of status)
 is_complete words source sink status (refused not_so untouched said) command all named is can calm_source calm_sink =
     absurd (not_both_so (are_accepted words) (ap is_some named) not_so)
-is_complete words source sink status (unread yes_accepted failed said) command all named is can calm_source calm_sink = absurd (calm_source failed)
-is_complete words source sink status (unfound yes_accepted memory same) command all named is can calm_source calm_sink = inr (ap number_of memory)
+is_complete words source sink status (source_failed yes_accepted failed said) command all named is can calm_source calm_sink = absurd (calm_source failed)
+is_complete words source sink status (no_memory yes_accepted memory same) command all named is can calm_source calm_sink = inr (ap number_of memory)
 is_complete words source sink status (answered yes_accepted bytes read given) command all named is can calm_source calm_sink =
     let e : bytes ≡ read_part all = read_is source bytes all read is in
     let answers : AnswersCommand (Some command) bytes given.status given.text = rw named at given.found_so in
@@ -410,8 +410,8 @@ is_usage words source sink status (refused not_so untouched said) not_accepted =
   | inl done ↦ (inl (ap number_of done.0, done.1), untouched)
   | inr fault ↦ (inr (ap number_of fault.0, said.prefix), untouched)
 ]
-is_usage words source sink status (unread yes_accepted failed said) not_accepted = absurd (not_both_so (are_accepted words) yes_accepted not_accepted)
-is_usage words source sink status (unfound yes_accepted memory same) not_accepted = absurd (not_both_so (are_accepted words) yes_accepted not_accepted)
+is_usage words source sink status (source_failed yes_accepted failed said) not_accepted = absurd (not_both_so (are_accepted words) yes_accepted not_accepted)
+is_usage words source sink status (no_memory yes_accepted memory same) not_accepted = absurd (not_both_so (are_accepted words) yes_accepted not_accepted)
 is_usage words source sink status (answered yes_accepted bytes read given) not_accepted = absurd (not_both_so (are_accepted words) yes_accepted not_accepted)
 
 -- accepted words get an answer to what was read
@@ -423,8 +423,8 @@ answers_what_was_read words source sink status ended accepted small = elim (whol
 
 untouched_if : (words : List (List ℕ)) (source sink : Ends) (status : Status) → Ended words source sink status → are_accepted words ≡ false → Untouched source
 untouched_if words source sink status (refused not_so untouched said) not_accepted = untouched
-untouched_if words source sink status (unread yes_accepted failed said) not_accepted = absurd (not_both_so (are_accepted words) yes_accepted not_accepted)
-untouched_if words source sink status (unfound yes_accepted memory same) not_accepted = absurd (not_both_so (are_accepted words) yes_accepted not_accepted)
+untouched_if words source sink status (source_failed yes_accepted failed said) not_accepted = absurd (not_both_so (are_accepted words) yes_accepted not_accepted)
+untouched_if words source sink status (no_memory yes_accepted memory same) not_accepted = absurd (not_both_so (are_accepted words) yes_accepted not_accepted)
 untouched_if words source sink status (answered yes_accepted bytes read given) not_accepted = absurd (not_both_so (are_accepted words) yes_accepted not_accepted)
 
 at_end_or_most : (source : Ends) (bytes : List ℕ) → IsRead bytes source → ReadAllThatCounts source
@@ -445,8 +445,8 @@ was_read words source sink status ended = record {
 -- or a prefix of one, or of the text of a read fault
 pub some_prefix : (words : List (List ℕ)) (source sink : Ends) (status : Status) → Ended words source sink status → HasSomePrefix words source sink (number_of status)
 some_prefix words source sink status (refused not_so untouched said) accepted gave_out = absurd (not_both_so (are_accepted words) accepted not_so)
-some_prefix words source sink status (unread yes_accepted failed said) accepted gave_out = (read_fault_text, inr (inl (refl, failed)), said.prefix)
-some_prefix words source sink status (unfound yes_accepted memory same) accepted gave_out =
+some_prefix words source sink status (source_failed yes_accepted failed said) accepted gave_out = (read_fault_text, inr (inl (refl, failed)), said.prefix)
+some_prefix words source sink status (no_memory yes_accepted memory same) accepted gave_out =
     ([], inr (inr (refl, ap number_of memory)), subst (λ (after : Option (List ℕ)). TookPrefix sink.before [] after) (sym same) (TookPrefix-nothing sink.before []))
 some_prefix words source sink status (answered yes_accepted bytes read given) accepted gave_out =
     (given.text, inl (bytes, read, given.status, given.found_so), given.prefix)

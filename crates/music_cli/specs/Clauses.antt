@@ -167,6 +167,6 @@ pub record IsGiven (found : Status → List ℕ → Type 0) (sink : Ends) (resul
 -- were read; or an answer was given to the bytes that were read.
 pub data Ended (words : List (List ℕ)) (source sink : Ends) (result : Status) : Type 0 where
   refused : are_accepted words ≡ false → Untouched source → IsSaid Usage usage_text sink result → Ended words source sink result
-  unread : are_accepted words ≡ true → Failed source → IsSaid ReadFault read_fault_text sink result → Ended words source sink result
-  unfound : are_accepted words ≡ true → result ≡ NoMemory → sink.after ≡ sink.before → Ended words source sink result
+  source_failed : are_accepted words ≡ true → Failed source → IsSaid ReadFault read_fault_text sink result → Ended words source sink result
+  no_memory : are_accepted words ≡ true → result ≡ NoMemory → sink.after ≡ sink.before → Ended words source sink result
   answered : are_accepted words ≡ true → (bytes : List ℕ) → IsRead bytes source → IsGiven (Answers words bytes) sink result → Ended words source sink result

@@ -1,14 +1,14 @@
 use Rattle.std.proofs.Common.{inl, inr}
 use Rattle.music_setup.specs.Scenes.{scene_of}
 use Rattle.music_cli.specs.Answers.{AnswersChecked, AnswersDone, AnswersScene, ok_text}
-use Rattle.music_cli.proofs.Endings.{checked_unread, given_as, of_described, of_refused}
+use Rattle.music_cli.proofs.Endings.{checked_no_memory, given_as, of_described, of_refused}
 use Rattle.music_cli.proofs.checking.check.Goals as goal
 
 pub refuse-requires : goal.refuse-requires
 refuse-requires g c = c.in-Err.ensures.has_text c.in_default.not-Memory
 
 pub returns-in-Memory : goal.returns-in-Memory
-returns-in-Memory g c = checked_unread _ _ _ c.requires
+returns-in-Memory g c = checked_no_memory _ _ _ c.requires
 
 pub returns-in-Ok : goal.returns-in-Ok
 returns-in-Ok g c =

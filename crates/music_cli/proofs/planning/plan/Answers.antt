@@ -2,7 +2,7 @@ use Rattle.std.proofs.Common.{inl, inr}
 use Rattle.music_setup.specs.Scenes.{scene_of}
 use Rattle.music_cli.specs.Answers.{AnswersDone, AnswersPlanned, AnswersScene}
 use Rattle.music_cli.specs.PlanTexts.{plan_text}
-use Rattle.music_cli.proofs.Endings.{given_as, of_described, of_refused, planned_unread}
+use Rattle.music_cli.proofs.Endings.{given_as, of_described, of_refused, planned_no_memory}
 use Rattle.music_cli.proofs.planning.plan.Goals as goal
 
 pub say_plan-requires : goal.say_plan-requires
@@ -12,7 +12,7 @@ pub refuse-requires : goal.refuse-requires
 refuse-requires g c = c.in-Err.ensures.has_text c.in_default.not-Memory
 
 pub returns-in-Memory : goal.returns-in-Memory
-returns-in-Memory g c = planned_unread _ _ _ c.requires
+returns-in-Memory g c = planned_no_memory _ _ _ c.requires
 
 pub returns-in-Ok : goal.returns-in-Ok
 returns-in-Ok g c =

@@ -1,5 +1,5 @@
-use Rattle.music_cli.proofs.Endings.{form_unfound}
+use Rattle.music_cli.proofs.Endings.{form_no_memory}
 use Rattle.music_cli.proofs.running.run.Goals as goal
 
 pub returns-in-Err-Memory : goal.returns-in-Err-Memory
-returns-in-Err-Memory g c = form_unfound _ _ _
+returns-in-Err-Memory g c = form_no_memory _ _ _
