@@ -1,5 +1,5 @@
 //! Reading the rules of a text, one after the other.
-ghost use Rattle.std.specs.Prelude.{◌≡◌, ◌≤◌, ◌<◌, ◌+◌, length, IfOk, IfErr, OnOk, true};
+ghost use Rattle.std.specs.Prelude.{◌≡◌, ◌≤◌, ◌<◌, length, IfOk, IfErr, OnOk, true};
 ghost use Rattle.text_words.specs.Words.{words};
 ghost use Rattle.scene_model.specs.Limits.{most_rules};
 ghost use Rattle.scene_model.specs.Ports.{names_differ};
@@ -18,14 +18,6 @@ use text_words::split_declaration;
 /// How many rules an application may have.
 const MOST_RULES: usize = 1_024;
 
-/// The place of a rule behind these, from 1.
-fn place_after(before: &[Rule]) -> u32
-    requires { length before.now ≤ most_rules }
-    ensures { result ≡ length before.now + 1 }
-{
-    before.len() as u32 + 1
-}
-
 /// The rule of a piece after the rules before it.
 #[tactic(auto, unfolding(crate::specs::Rules::rule_beside))]
 fn read_rule(
@@ -41,7 +33,7 @@ fn read_rule(
     ensures rule { IfOk result (λ rule. rule_beside ports.now tick lasts before.now (words piece.now) ≡ Ok rule) }
     ensures fault { IfErr result (IsFaultOf (rule_beside ports.now tick lasts before.now (words piece.now))) }
 {
-    let place = place_after(before);
+    let place = before.len() as u32 + 1;
     if before.len() >= MOST_RULES {
         return Err(RuleFault::RuleText { place });
     }

@@ -1,4 +1,4 @@
-ghost use Rattle.std.specs.Prelude.{◌≡◌, ◌<◌, ◌≤◌, ◌+◌, true, length, is_some, bytes_eq, IfOk, IfErr, IfSome, OnOk, None, Ok, option_copied};
+ghost use Rattle.std.specs.Prelude.{◌≡◌, ◌<◌, ◌≤◌, true, length, is_some, bytes_eq, IfOk, IfErr, IfSome, OnOk, None, Ok, option_copied};
 ghost use Rattle.std.specs.List.{list_any};
 ghost use Rattle.index_maps.specs.Repeats.{IsRepeatOf};
 ghost use Rattle.text_words.specs.Words.{words};
@@ -96,14 +96,6 @@ fn port_with(name: Name, map: PortMap, parts: &PortParts<'_>) -> PortDecl
     }
 }
 
-/// The place of a declaration behind these, from 1.
-fn place_after(before: &[PortDecl]) -> u32
-    requires { length before.now ≤ most_ports }
-    ensures { result ≡ length before.now + 1 }
-{
-    before.len() as u32 + 1
-}
-
 /// The port that a declaration gives beside the ports before it.
 #[tactic(auto, unfolding(crate::specs::Ports::port_beside, crate::specs::Ports::fault_beside))]
 fn read_port(
@@ -118,7 +110,7 @@ fn read_port(
     ensures port { IfOk result (λ port. port_beside np before.now (words piece.now) ≡ Ok port) }
     ensures fault { IfErr result (IsFaultOf (port_beside np before.now (words piece.now))) }
 {
-    let place = place_after(before);
+    let place = before.len() as u32 + 1;
     let Some(parts) = port_in(np, piece) else {
         return Err(PortFault::PortText { place });
     };
