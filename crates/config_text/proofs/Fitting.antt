@@ -1,19 +1,25 @@
 -- What a line is read as is lawful, and what it is refused as is never Unbuilt.
-use Rattle.std.proofs.Common.{◌≡◌, ℕ, Bool, true, false, ◌&&◌, ◌||◌, List, [], ◌∷◌, refl}
+use Rattle.std.proofs.Common.{◌≡◌, ℕ, Bool, true, false, not, ◌&&◌, ◌||◌, List, [], ◌∷◌, refl}
 use Rattle.std.specs.Prelude.{Result, Ok, Err, Option, Some, None, if◌then◌else◌}
 use Rattle.std.specs.List.{list_any, list_all, before_first, after_first}
+use Rattle.std.specs.Option.{ok_or}
 use Rattle.std.specs.Str.Parse.{digits_value}
 use Rattle.std.specs.Int.{is_in_range}
 use Rattle.std.proofs.lemmas.Bool.{and_parts, and_from}
 use Rattle.music_base.specs.Names.{is_name}
 use Rattle.config_text.specs.declared.text_kind.TextKind.{TextKind}
-use Rattle.config_text.specs.declared.text_kind.TextKind.TheVariants.{Unbuilt}
+use Rattle.config_text.specs.declared.text_kind.TextKind.TheVariants.{BadOption, Unbuilt}
 use Rattle.music_base.specs.Times.{is_point}
-use Rattle.config_text.specs.Bytes.{close_bracket, is_quote, is_equals, is_open_bracket, is_text_byte}
-use Rattle.config_text.specs.Parts.{◌>>=◌, without_cr, before_comment, trimmed, ends_in, between_ends, without_last, name_in, is_value}
+use Rattle.config_text.specs.Bytes.{close_bracket, is_quote, is_equals, is_open_bracket, is_close_bracket, is_text_byte}
+use Rattle.config_text.specs.Parts.{◌>>=◌, without_cr, before_comment, trimmed, ends_in, between_ends, name_in, is_value}
 use Rattle.music_base.specs.Counts.{is_count}
-use Rattle.config_text.specs.Connections.{split_at_arrow, end_in, width_in, most_width, link_between, connection_with_width, connection_without_width, connection_between, connection_at, connection_in, is_width, is_link}
+use Rattle.config_text.specs.declared.arrows.Arrow.{Arrow}
+use Rattle.config_text.specs.declared.arrows.Arrow.TheVariants.{FromSender, FromReceiver}
+use Rattle.config_text.specs.declared.link_options.LinkOptions.{LinkOptions}
+use Rattle.config_text.specs.Connections.{AtArrow, split_at_arrow, end_in, width_in, most_width, right_in, width_given, link_between, directed, connection_of, connection_at, connection_in, is_width, is_link}
+use Rattle.config_text.specs.Options.{options_in, is_latency, is_buffered}
 use Rattle.config_text.specs.Contents.{Content, section, setting, connection, is_quoted, value_in, section_in, is_setting, setting_in, content_in, content_of, is_lawful}
+use Rattle.config_text.proofs.ReadOptions.{options_lawful}
 use Rattle.config_text.proofs.TextBytes.{list_all-drop, text-trimmed, quoted_value, plain_value}
 
 abbrev pub is_built : TextKind → Bool
@@ -66,37 +72,52 @@ reads-width text =
     let count = trimmed text in
     reads-if (λ width. is_width (Some width)) (is_count count && is_in_range 1 most_width (digits_value 10 count)) _ _ (λ is. (and_parts (is_count count) _ is).1) (λ is. refl)
 
-link_is : (from to : List ℕ × List ℕ) (width : Option ℕ) → are_names from ≡ true → are_names to ≡ true → is_width width ≡ true → is_link (link_between from to width) ≡ true
+reads-given : (text : Option (List ℕ)) → Reads is_width (width_given text)
+reads-given None = refl
+reads-given (Some text) = reads-then (λ width. is_width (Some width)) is_width (width_in text) (λ width. Ok (Some width)) (reads-width text) (λ width fits. fits)
+
+abbrev are_lawful : LinkOptions → Bool
+are_lawful options = is_latency options.latency && is_buffered options.buffered
+
+reads-options : (text : List ℕ) → Reads are_lawful (ok_or (options_in text) BadOption)
+reads-options text = go (options_in text) refl
+  where
+    go : (o : Option LinkOptions) → options_in text ≡ o → Reads are_lawful (ok_or o BadOption)
+    go None is = refl
+    go (Some options) is = let o = options_lawful text options is in and_from _ _ o.latency o.buffered
+
+link_is : (from to : List ℕ × List ℕ) (width : Option ℕ) (options : LinkOptions) → are_names from ≡ true → are_names to ≡ true → is_width width ≡ true → are_lawful options ≡ true
+    → is_link (link_between from to width options) ≡ true
 unfolding are_names
-link_is from to width a b fits =
+link_is from to width options a b fits lawful =
     let f = and_parts (is_name from.0) (is_name from.1) a in
     let t = and_parts (is_name to.0) (is_name to.1) b in
-    and_from _ _ (and_from _ _ (and_from _ _ (and_from _ _ f.0 f.1) t.0) t.1) fits
+    let o = and_parts (is_latency options.latency) (is_buffered options.buffered) lawful in
+    and_from _ _ (and_from _ _ (and_from _ _ (and_from _ _ (and_from _ _ (and_from _ _ f.0 f.1) t.0) t.1) fits) o.0) o.1
 
-reads-wide : (left right : List ℕ) → Reads is_link (connection_with_width left right)
-reads-wide left right =
-    let inside = without_last (after_first is_open_bracket right) in
-    reads-if is_link (ends_in close_bracket right) _ _
-    (λ closed. reads-then are_names is_link (end_in left) _ (reads-end left)
-    (λ from a. reads-then are_names is_link (end_in (before_first is_open_bracket right)) _ (reads-end (before_first is_open_bracket right))
-    (λ to b. reads-then (λ width. is_width (Some width)) is_link (width_in inside) (λ width. Ok (link_between from to (Some width))) (reads-width inside)
-    (λ width fits. link_is from to (Some width) a b fits))))
-    (λ open_. refl)
+directed_is : (arrow : Arrow) (left right : List ℕ × List ℕ) (width : Option ℕ) (options : LinkOptions) → are_names left ≡ true → are_names right ≡ true → is_width width ≡ true → are_lawful options ≡ true
+    → is_link (directed arrow left right width options) ≡ true
+directed_is FromSender left right width options a b fits lawful = link_is left right width options a b fits lawful
+directed_is FromReceiver left right width options a b fits lawful = link_is right left width options b a fits lawful
 
-reads-bare : (left right : List ℕ) → Reads is_link (connection_without_width left right)
-reads-bare left right =
-    reads-then are_names is_link (end_in left) _ (reads-end left)
-    (λ from a. reads-then are_names is_link (end_in right) (λ to. Ok (link_between from to None)) (reads-end right) (λ to b. link_is from to None a b refl))
+reads-right : (right : List ℕ) → Reads (λ part. true) (right_in right)
+reads-right right =
+    reads-if (λ part. true) (not (list_any is_open_bracket right)) _ _ (λ bare. refl)
+    (λ opens. reads-if (λ part. true) (list_any is_close_bracket (after_first is_open_bracket right)) _ _ (λ closes. refl) (λ unclosed. refl))
 
-reads-between : (left behind : List ℕ) → Reads is_link (connection_between left behind)
-reads-between left behind =
-    let right = trimmed behind in
-    reads-if is_link (list_any is_quote left || list_any is_quote behind) _ _ (λ some. refl)
-    (λ none. reads-if is_link (list_any is_open_bracket right) _ _ (λ opens. reads-wide left right) (λ bare. reads-bare left right))
+reads-cut : (cut : AtArrow) → Reads is_link (connection_of cut)
+reads-cut cut =
+    reads-if is_link (list_any is_quote cut.before || list_any is_quote cut.behind) _ _ (λ some. refl)
+    (λ none. reads-then (λ part. true) is_link (right_in (trimmed cut.behind)) _ (reads-right (trimmed cut.behind))
+    (λ part is. reads-then are_names is_link (end_in cut.before) _ (reads-end cut.before)
+    (λ left a. reads-then are_names is_link (end_in part.end) _ (reads-end part.end)
+    (λ right b. reads-then is_width is_link (width_given part.width) _ (reads-given part.width)
+    (λ width fits. reads-then are_lawful is_link (ok_or (options_in part.options) BadOption) (λ options. Ok (directed cut.arrow left right width options)) (reads-options part.options)
+    (λ options lawful. directed_is cut.arrow left right width options a b fits lawful))))))
 
-reads-at : (parts : Option (List ℕ × List ℕ)) → Reads is_link (connection_at parts)
+reads-at : (cut : Option AtArrow) → Reads is_link (connection_at cut)
 reads-at None = refl
-reads-at (Some parts) = reads-between parts.0 parts.1
+reads-at (Some cut) = reads-cut cut
 
 reads-in : (content : List ℕ) → list_all is_text_byte content ≡ true → Reads is_lawful (content_in content)
 reads-in [] all = refl

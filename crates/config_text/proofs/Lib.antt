@@ -2,7 +2,7 @@ pub mod Cutting
 pub mod Ends
 pub mod Comments
 pub mod CommentRule
-pub mod Arrows
+pub mod FirstArrow
 pub mod Ending
 pub mod LastSection
 pub mod Keeping
@@ -20,8 +20,8 @@ pub mod Firsts
 pub mod NameBytes
 pub mod Alone
 pub mod Dashes
+pub mod WrittenEnds
 pub mod WrittenSetting
-pub mod WrittenLink
 pub mod CanonContents
 pub mod CanonLines
 pub mod CanonConfig
@@ -29,3 +29,12 @@ pub mod CanonFree
 pub mod Canonical
 pub mod SettingLine
 pub mod Written
+pub mod OptionWords
+pub mod WrittenOptions
+pub mod WrittenLink
+pub mod ReadOptions
+pub mod BareArrows
+pub mod BareConnections
+pub mod BareLines
+pub mod NoOptions
+pub mod Rows

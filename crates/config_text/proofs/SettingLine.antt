@@ -26,14 +26,14 @@ use Rattle.config_text.proofs.WrittenSetting.{not_quoted}
 
 -- ---- bytes before the '='
 
-begins : (x : ℕ) (xs : List ℕ) (t : Bool) → is_blank x ≡ t → begins_with_blank (x ∷ xs) ≡ t
+pub begins : (x : ℕ) (xs : List ℕ) (t : Bool) → is_blank x ≡ t → begins_with_blank (x ∷ xs) ≡ t
 begins x xs t e = rw (lt-ltb 0 (length (x ∷ xs)) (omega arith)) e
 
 -- a blank or a byte of a name
-abbrev is_front_byte : ℕ → Bool
+abbrev pub is_front_byte : ℕ → Bool
 is_front_byte b = is_blank b || is_in_names b
 
-blank_byte : (p : ℕ → Bool) (t : Bool) → p 32 ≡ t → p 9 ≡ t → (b : ℕ) → is_blank b ≡ true → p b ≡ t
+pub blank_byte : (p : ℕ → Bool) (t : Bool) → p 32 ≡ t → p 9 ≡ t → (b : ℕ) → is_blank b ≡ true → p b ≡ t
 blank_byte p t space tab b is =
     elim (or_cases (eqb b 32) (eqb b 9) is) [
       | inl same ↦ ap p (eqb-true b 32 same) ∙ space
@@ -47,13 +47,13 @@ front_misses p misses space tab b is =
       | inr named ↦ name_byte_misses p misses b named
     ]
 
-none_in_front : (p : ℕ → Bool) → misses_names p ≡ true → p 32 ≡ false → p 9 ≡ false → (xs : List ℕ) → list_all is_front_byte xs ≡ true → list_any p xs ≡ false
+pub none_in_front : (p : ℕ → Bool) → misses_names p ≡ true → p 32 ≡ false → p 9 ≡ false → (xs : List ℕ) → list_all is_front_byte xs ≡ true → list_any p xs ≡ false
 none_in_front p misses space tab [] all = refl
 none_in_front p misses space tab (x ∷ xs) all =
     let parts = and_parts (is_front_byte x) (list_all is_front_byte xs) all in
     or_from (p x) (list_any p xs) (front_misses p misses space tab x parts.0) (none_in_front p misses space tab xs parts.1)
 
-all_from_none : (p : ℕ → Bool) (xs : List ℕ) → list_any (λ b. not (p b)) xs ≡ false → list_all p xs ≡ true
+pub all_from_none : (p : ℕ → Bool) (xs : List ℕ) → list_any (λ b. not (p b)) xs ≡ false → list_all p xs ≡ true
 all_from_none p [] none = refl
 all_from_none p (x ∷ xs) none =
     let parts = or_parts (not (p x)) (list_any (λ b. not (p b)) xs) none in
@@ -98,7 +98,7 @@ found_name : (t : Bool) (text name : List ℕ) → cond t (Ok text) (Err BadName
 found_name true text name e = refl
 found_name false text name e = absurd cc
 
-front_bytes : (before name : List ℕ) → name_in before ≡ Ok name → list_all is_front_byte before ≡ true
+pub front_bytes : (before name : List ℕ) → name_in before ≡ Ok name → list_all is_front_byte before ≡ true
 front_bytes before name e =
     let is : is_name (trimmed before) ≡ true = found_name (is_name (trimmed before)) (trimmed before) name e in
     all_leading before (all_trailing (length (without_leading_blanks before)) (without_leading_blanks before) (omega arith) (named_front (trimmed before) (name_parts (trimmed before) is).all))
@@ -157,7 +157,7 @@ trimmed-push (x ∷ xs) y blank =
           ∙ ap without_trailing_blanks (sym (leading_no (x ∷ xs) (begins x xs false other)))
     ]
 
-trimmed_trailing : (n : ℕ) (xs : List ℕ) → length xs ≤ n → trimmed (without_trailing_blanks xs) ≡ trimmed xs
+pub trimmed_trailing : (n : ℕ) (xs : List ℕ) → length xs ≤ n → trimmed (without_trailing_blanks xs) ≡ trimmed xs
 trimmed_trailing zero [] le = refl
 trimmed_trailing zero (x ∷ xs) le = absurd (omega arith)
 trimmed_trailing (suc n) xs le =

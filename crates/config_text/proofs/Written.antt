@@ -29,3 +29,13 @@ pub link_more : (out base : List ℕ) (links : List LinkText) (i : ℕ) (link : 
 link_more out base links i link lt at so_far =
     let more : take (i + 1) links ≡ take i links ++ link ∷ [] = take_more links i link lt ∙ ap (λ (l : LinkText). take i links ++ l ∷ []) (sym at) in
     rw (more, map_push link_line (take i links) link, so_far) (flat_map_more ended base (map link_line (take i links)) (link_line link))
+
+-- what is put in turn is put as one list
+pub seven_put : (out a b c d e f g : List ℕ) → out ++ a ++ b ++ c ++ d ++ e ++ f ++ g ≡ out ++ (a ++ b ++ c ++ d ++ e ++ f ++ g)
+seven_put out a b c d e f g =
+    let two : out ++ a ++ b ≡ out ++ (a ++ b) = append_assoc out a b in
+    let three : out ++ a ++ b ++ c ≡ out ++ (a ++ b ++ c) = ap (λ (l : List ℕ). l ++ c) two ∙ append_assoc out (a ++ b) c in
+    let four : out ++ a ++ b ++ c ++ d ≡ out ++ (a ++ b ++ c ++ d) = ap (λ (l : List ℕ). l ++ d) three ∙ append_assoc out (a ++ b ++ c) d in
+    let five : out ++ a ++ b ++ c ++ d ++ e ≡ out ++ (a ++ b ++ c ++ d ++ e) = ap (λ (l : List ℕ). l ++ e) four ∙ append_assoc out (a ++ b ++ c ++ d) e in
+    let six : out ++ a ++ b ++ c ++ d ++ e ++ f ≡ out ++ (a ++ b ++ c ++ d ++ e ++ f) = ap (λ (l : List ℕ). l ++ f) five ∙ append_assoc out (a ++ b ++ c ++ d ++ e) f in
+    ap (λ (l : List ℕ). l ++ g) six ∙ append_assoc out (a ++ b ++ c ++ d ++ e ++ f) g

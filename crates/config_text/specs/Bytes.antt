@@ -26,9 +26,13 @@ open_bracket = 91
 abbrev pub close_bracket : ℕ
 close_bracket = 93
 
--- "->", from the sender to the receiver of a connection
+-- "->", behind the sender of a connection
 abbrev pub arrow : List ℕ
 arrow = codes "->"
+
+-- "<-", behind the receiver of a connection
+abbrev pub back_arrow : List ℕ
+back_arrow = codes "<-"
 
 abbrev pub is_quote : ℕ → Bool
 is_quote b = b == quote
@@ -41,6 +45,9 @@ is_equals b = b == equals
 
 abbrev pub is_open_bracket : ℕ → Bool
 is_open_bracket b = b == open_bracket
+
+abbrev pub is_close_bracket : ℕ → Bool
+is_close_bracket b = b == close_bracket
 
 -- a tab, or 0x20 to 0x7E: what may stand outside a comment
 abbrev pub is_text_byte : ℕ → Bool

@@ -1,28 +1,45 @@
 -- The line of a connection: how it is read, what it obeys, and how it is written.
-use Rattle.std.specs.Prelude.{ℕ, Bool, true, ◌&&◌, ◌||◌, ◌==◌, if◌then◌else◌, List, [], ◌∷◌, ◌++◌, drop, Option, Some, None, Result, Ok, Err, codes}
+use Rattle.std.specs.Prelude.{ℕ, Bool, true, not, ◌&&◌, ◌||◌, ◌==◌, if◌then◌else◌, List, [], ◌∷◌, ◌++◌, drop, Option, Some, None, Result, Ok, Err, codes}
 use Rattle.std.specs.Fmt.{decimal}
 use Rattle.std.specs.Int.{is_in_range}
 use Rattle.std.specs.List.{list_any, before_first, after_first, starts_with}
-use Rattle.std.specs.Option.{option_map}
+use Rattle.std.specs.Option.{ok_or, option_map}
 use Rattle.std.specs.Str.Parse.{digits_value}
+use Rattle.music_base.specs.Blanks.{space, is_blank}
+use Rattle.music_base.specs.Counts.{is_count}
 use Rattle.music_base.specs.Names.{is_name}
+use Rattle.music_base.specs.Times.{point, is_point}
+use Rattle.config_text.specs.declared.arrows.Arrow.{Arrow}
+use Rattle.config_text.specs.declared.arrows.Arrow.TheVariants.{FromSender, FromReceiver}
+use Rattle.config_text.specs.declared.link_options.LinkOptions.{LinkOptions}
 use Rattle.config_text.specs.declared.link_text.LinkText.{LinkText}
 use Rattle.config_text.specs.declared.text_kind.TextKind.{TextKind}
-use Rattle.config_text.specs.declared.text_kind.TextKind.TheVariants.{BadLine, BadName, BadWidth}
-use Rattle.music_base.specs.Blanks.{space}
-use Rattle.music_base.specs.Times.{point, is_point}
-use Rattle.config_text.specs.Bytes.{arrow, open_bracket, close_bracket, is_quote, is_open_bracket}
-use Rattle.config_text.specs.Parts.{◌>>=◌, trimmed, ends_in, without_last}
-use Rattle.music_base.specs.Counts.{is_count}
+use Rattle.config_text.specs.declared.text_kind.TextKind.TheVariants.{BadLine, BadName, BadWidth, BadOption}
+use Rattle.config_text.specs.Bytes.{arrow, back_arrow, open_bracket, close_bracket, is_quote, is_open_bracket, is_close_bracket}
+use Rattle.config_text.specs.Options.{options_in, is_latency, is_buffered, latency_text, buffered_text}
+use Rattle.config_text.specs.Parts.{◌>>=◌, trimmed}
 
--- what stands before the first arrow, and what stands after it
-abbrev pub split_at_arrow : List ℕ → Option (List ℕ × List ℕ)
+-- ---- the arrow
+
+-- a content cut at an arrow
+pub record AtArrow : Type 0 where
+  pub before : List ℕ
+  pub behind : List ℕ
+  pub arrow : Arrow
+
+-- with one more byte before the arrow
+abbrev pub onto : ℕ → AtArrow → AtArrow
+onto b cut = record cut { before = b ∷ cut.before }
+
+-- cut at the arrow that begins first
+abbrev pub split_at_arrow : List ℕ → Option AtArrow
 split_at_arrow [] = None
 split_at_arrow (b ∷ bytes) =
-    if starts_with ◌==◌ (b ∷ bytes) arrow then Some ([], drop 1 bytes)
-    else option_map (λ parts. (b ∷ parts.0, parts.1)) (split_at_arrow bytes)
+    if starts_with ◌==◌ (b ∷ bytes) arrow then Some (record { before = []; behind = drop 1 bytes; arrow = FromSender })
+    else if starts_with ◌==◌ (b ∷ bytes) back_arrow then Some (record { before = []; behind = drop 1 bytes; arrow = FromReceiver })
+    else option_map (onto b) (split_at_arrow bytes)
 
--- ---- how it is read
+-- ---- how the parts are read
 
 -- an end is a name, a point and a name: the application's and the port's
 abbrev pub end_in : List ℕ → Result (List ℕ × List ℕ) TextKind
@@ -38,37 +55,62 @@ abbrev pub width_in : List ℕ → Result ℕ TextKind
 width_in text = let count = trimmed text in
     if is_count count && is_in_range 1 most_width (digits_value 10 count) then Ok (digits_value 10 count) else Err BadWidth
 
-abbrev pub link_between : List ℕ × List ℕ → List ℕ × List ℕ → Option ℕ → LinkText
-link_between from to width = record { from_app = from.0; from_port = from.1; to_app = to.0; to_port = to.1; width = width }
+-- what stands behind the arrow: the right end, the width text where there is one, and the option text
+pub record RightPart : Type 0 where
+  pub end : List ℕ
+  pub width : Option (List ℕ)
+  pub options : List ℕ
 
--- The right part has a '[': it ends in ']', the receiver stands before the bracket, and the width in the brackets.
-abbrev pub connection_with_width : List ℕ → List ℕ → Result LinkText TextKind
-connection_with_width left right =
-    if ends_in close_bracket right then (do
-      from ← end_in left
-      to ← end_in (before_first is_open_bracket right)
-      width ← width_in (without_last (after_first is_open_bracket right))
-      Ok (link_between from to (Some width)))
+-- With a '[', a ']' stands behind it, and the width between them. Without one the end goes to the first blank.
+abbrev pub right_in : List ℕ → Result RightPart TextKind
+right_in right =
+    let inside = after_first is_open_bracket right in
+    if not (list_any is_open_bracket right)
+    then Ok (record { end = before_first is_blank right; width = None; options = after_first is_blank right })
+    else if list_any is_close_bracket inside then Ok (record {
+      end = before_first is_open_bracket right;
+      width = Some (before_first is_close_bracket inside);
+      options = after_first is_close_bracket inside;
+    })
     else Err BadLine
 
--- The right part is the receiver, and no width is stated.
-abbrev pub connection_without_width : List ℕ → List ℕ → Result LinkText TextKind
-connection_without_width left right = do
-  from ← end_in left
-  to ← end_in right
-  Ok (link_between from to None)
+abbrev pub width_given : Option (List ℕ) → Result (Option ℕ) TextKind
+width_given None = Ok None
+width_given (Some text) = width_in text >>= λ width. Ok (Some width)
 
--- what stands before and behind the arrow, with no quotation mark
-abbrev pub connection_between : List ℕ → List ℕ → Result LinkText TextKind
-connection_between left behind = let right = trimmed behind in
-    if list_any is_quote left || list_any is_quote behind then Err BadLine
-    else if list_any is_open_bracket right then connection_with_width left right
-    else connection_without_width left right
+-- ---- how the connection is read
+
+abbrev pub link_between : List ℕ × List ℕ → List ℕ × List ℕ → Option ℕ → LinkOptions → LinkText
+link_between from to width options = record {
+  from_app = from.0;
+  from_port = from.1;
+  to_app = to.0;
+  to_port = to.1;
+  width = width;
+  latency = options.latency;
+  buffered = options.buffered;
+}
+
+-- the sender stands before the arrow or behind it
+abbrev pub directed : Arrow → List ℕ × List ℕ → List ℕ × List ℕ → Option ℕ → LinkOptions → LinkText
+directed FromSender left right width options = link_between left right width options
+directed FromReceiver left right width options = link_between right left width options
+
+-- no quotation mark stands on either side of the arrow
+abbrev pub connection_of : AtArrow → Result LinkText TextKind
+connection_of cut =
+    if list_any is_quote cut.before || list_any is_quote cut.behind then Err BadLine else do
+      part ← right_in (trimmed cut.behind)
+      left ← end_in cut.before
+      right ← end_in part.end
+      width ← width_given part.width
+      options ← ok_or (options_in part.options) BadOption
+      Ok (directed cut.arrow left right width options)
 
 -- a content that has no arrow is no line of any kind
-abbrev pub connection_at : Option (List ℕ × List ℕ) → Result LinkText TextKind
+abbrev pub connection_at : Option AtArrow → Result LinkText TextKind
 connection_at None = Err BadLine
-connection_at (Some parts) = connection_between parts.0 parts.1
+connection_at (Some cut) = connection_of cut
 
 abbrev pub connection_in : List ℕ → Result LinkText TextKind
 connection_in content = connection_at (split_at_arrow content)
@@ -80,7 +122,9 @@ is_width None = true
 is_width (Some width) = is_in_range 1 most_width width
 
 abbrev pub is_link : LinkText → Bool
-is_link link = is_name link.from_app && is_name link.from_port && is_name link.to_app && is_name link.to_port && is_width link.width
+is_link link =
+    is_name link.from_app && is_name link.from_port && is_name link.to_app && is_name link.to_port
+    && is_width link.width && is_latency link.latency && is_buffered link.buffered
 
 -- ---- how it is written
 
@@ -93,6 +137,12 @@ abbrev pub width_text : Option ℕ → List ℕ
 width_text None = []
 width_text (Some width) = space ∷ open_bracket ∷ decimal width ++ close_bracket ∷ []
 
--- a.p -> b.q, or a.p -> b.q [7]
+-- a.p -> b.q, and then what is stated, each behind a space
 abbrev pub link_line : LinkText → List ℕ
-link_line link = end_text link.from_app link.from_port ++ codes " -> " ++ end_text link.to_app link.to_port ++ width_text link.width
+link_line link =
+    end_text link.from_app link.from_port
+    ++ codes " -> "
+    ++ end_text link.to_app link.to_port
+    ++ width_text link.width
+    ++ latency_text link.latency
+    ++ buffered_text link.buffered

@@ -54,7 +54,7 @@ abbrev pub content_of : List ℕ → Result Content TextKind
 content_of line = let visible = before_comment (without_cr line) in
     if list_all is_text_byte visible then content_in (trimmed visible) else Err BadByte
 
--- names are names, values are values, and widths are in range
+-- names are names, values are values, and what a connection states is in range
 abbrev pub is_lawful : Content → Bool
 is_lawful blank = true
 is_lawful (section name) = is_name name

@@ -1,6 +1,7 @@
 -- Words of the inner calls alone: no clause of a public call has them.
 use Rattle.std.specs.Prelude.{◌≡◌, ℕ, Bool, not, ◌&&◌, if◌then◌else◌, List, [], ◌∷◌, ◌++◌, None, Result, Ok, Err}
 use Rattle.std.specs.List.{list_all}
+use Rattle.std.specs.Option.{option_map}
 use Rattle.config_text.specs.declared.text_kind.TextKind.{TextKind}
 use Rattle.config_text.specs.declared.text_kind.TextKind.TheVariants.{BadByte}
 use Rattle.config_text.specs.declared.text_fault.TextFault.{TextFault}
@@ -9,11 +10,13 @@ use Rattle.config_text.specs.declared.reading.LineFault.{LineFault}
 use Rattle.config_text.specs.declared.reading.LineFault.TheVariants as line_faults
 use Rattle.config_text.specs.declared.config.Config.{Config}
 use Rattle.config_text.specs.declared.link_text.LinkText.{LinkText}
+use Rattle.config_text.specs.declared.arrows.LentCut.{LentCut}
 use Rattle.config_text.specs.declared.connection.End.{End}
+use Rattle.config_text.specs.declared.connection.LentPart.{LentPart}
 use Rattle.config_text.specs.declared.connection.Connection.{Connection}
 use Rattle.config_text.specs.declared.content.LentContent.{LentContent}
 use Rattle.config_text.specs.declared.content.LentContent.TheVariants as lent
-use Rattle.config_text.specs.Connections.{link_between}
+use Rattle.config_text.specs.Connections.{AtArrow, RightPart, link_between}
 use Rattle.config_text.specs.Contents.{Content, blank, section, setting, connection, value_in}
 use Rattle.config_text.specs.Bytes.{equals, is_quote, is_comment_sign, is_text_byte}
 use Rattle.config_text.specs.Parts.{◌>>=◌, name_in, without_cr, before_comment}
@@ -30,8 +33,14 @@ Gives view (Err kind) reading = reading ≡ Err kind
 abbrev pub names_of : End → List ℕ × List ℕ
 names_of end = (end.app.now, end.port.now)
 
+abbrev pub cut_of : LentCut → AtArrow
+cut_of c = record { before = c.before.now; behind = c.behind.now; arrow = c.arrow }
+
+abbrev pub part_of : LentPart → RightPart
+part_of p = record { end = p.end.now; width = option_map (λ w. w.now) p.width; options = p.options.now }
+
 abbrev pub link_of : Connection → LinkText
-link_of c = link_between (names_of c.from) (names_of c.to) c.width
+link_of c = link_between (names_of c.from) (names_of c.to) c.width c.options
 
 abbrev pub seen : LentContent → Content
 seen lent.Blank = blank

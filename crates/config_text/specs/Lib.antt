@@ -1,6 +1,7 @@
 pub mod Bytes
 pub mod Lines
 pub mod Parts
+pub mod Options
 pub mod Connections
 pub mod Contents
 pub mod Pairs
@@ -9,3 +10,5 @@ pub mod Lawful
 pub mod Canon
 pub mod Lookup
 pub mod Inner
+pub mod BareTexts
+pub mod ConnectionRows

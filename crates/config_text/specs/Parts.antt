@@ -57,9 +57,6 @@ ends_in b bytes = slice_index bytes (length bytes - 1) == b
 abbrev pub between_ends : List ℕ → List ℕ
 between_ends bytes = take (length bytes - 2) (drop 1 bytes)
 
-abbrev pub without_last : List ℕ → List ℕ
-without_last bytes = take (length bytes - 1) bytes
-
 -- the name that stands in the text, with blanks around it or none
 abbrev pub name_in : List ℕ → Result (List ℕ) TextKind
 name_in text = let name = trimmed text in if is_name name then Ok name else Err BadName

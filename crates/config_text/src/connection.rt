@@ -1,16 +1,17 @@
 //! The line of a connection.
 
-ghost use Rattle.std.specs.Prelude.{◌≡◌, ◌==◌, ◌&&◌, true, is_some};
-ghost use Rattle.std.specs.List.{list_any, starts_with};
+ghost use Rattle.std.specs.Prelude.{◌≡◌, ◌&&◌};
 ghost use Rattle.std.specs.Option.{option_map};
 ghost use Rattle.music_base.specs.Names.{is_name};
-ghost use Rattle.config_text.specs.Bytes.{arrow, is_open_bracket};
-ghost use Rattle.config_text.specs.Connections.{split_at_arrow, end_in, width_in, connection_with_width, connection_without_width, connection_between, connection_in};
-ghost use Rattle.config_text.specs.Inner.{Gives, names_of, link_of};
+ghost use Rattle.config_text.specs.Connections.{end_in, width_in, right_in, width_given, directed, connection_of, connection_in};
+ghost use Rattle.config_text.specs.Inner.{Gives, names_of, cut_of, part_of, link_of};
 
 use crate::TextKind;
-use crate::parts::{after_first, before_first, ends_in_bracket, has, trimmed, without_last};
+use crate::arrows::{Arrow, LentCut, split_at_arrow};
+use crate::link_options::{LinkOptions, options_in};
+use crate::parts::{after_first, around_blank, before_first, has, trimmed};
 use music_base::{count_up_to, is_name};
+use text_words::around;
 
 /// The greatest width.
 const MOST_WIDTH: u32 = 65_536;
@@ -22,36 +23,21 @@ pub struct End<'a> {
     pub port: &'a [u8],
 }
 
+/// The right end, the width text where there is one, and the option text, lent from their line.
+#[derive(Clone, Copy)]
+pub struct LentPart<'a> {
+    pub end: &'a [u8],
+    pub width: Option<&'a [u8]>,
+    pub options: &'a [u8],
+}
+
 /// A connection, lent from its line.
 #[derive(Clone, Copy)]
 pub struct Connection<'a> {
     pub from: End<'a>,
     pub to: End<'a>,
     pub width: Option<u32>,
-}
-
-/// What stands before the first arrow, and what stands after it.
-pub fn split_at_arrow(bytes: &[u8]) -> Option<(&[u8], &[u8])>
-    ensures { option_map (λ parts. (parts.0.now, parts.1.now)) result ≡ split_at_arrow bytes.now }
-{
-    for i in 0..bytes.len() {
-        if begins_with_arrow(&bytes[i..]) {
-            return Some((&bytes[..i], &bytes[i + 2..]));
-        }
-    }
-    None
-}
-
-fn begins_with_arrow(bytes: &[u8]) -> bool
-    ensures { result ≡ starts_with ◌==◌ bytes.now arrow }
-{
-    bytes.starts_with(b"->")
-}
-
-pub fn has_arrow(bytes: &[u8]) -> bool
-    ensures { result ≡ is_some (split_at_arrow bytes.now) }
-{
-    split_at_arrow(bytes).is_some()
+    pub options: LinkOptions,
 }
 
 fn are_names(app: &[u8], port: &[u8]) -> bool
@@ -60,7 +46,7 @@ fn are_names(app: &[u8], port: &[u8]) -> bool
     is_name(app) && is_name(port)
 }
 
-fn end_in(text: &[u8]) -> Result<End<'_>, TextKind>
+pub fn end_in(text: &[u8]) -> Result<End<'_>, TextKind>
     ensures { Gives names_of result (end_in text.now) }
 {
     let names = trimmed(text);
@@ -74,7 +60,7 @@ fn end_in(text: &[u8]) -> Result<End<'_>, TextKind>
 }
 
 #[tactic(auto, unfolding(music_base::specs::Counts::count_up_to))]
-fn width_in(text: &[u8]) -> Result<u32, TextKind>
+pub fn width_in(text: &[u8]) -> Result<u32, TextKind>
     ensures { Gives (λ n. n) result (width_in text.now) }
 {
     match count_up_to(MOST_WIDTH, trimmed(text)) {
@@ -83,47 +69,75 @@ fn width_in(text: &[u8]) -> Result<u32, TextKind>
     }
 }
 
-fn connection_with_width<'a>(left: &'a [u8], right: &'a [u8]) -> Result<Connection<'a>, TextKind>
-    requires { list_any is_open_bracket right.now ≡ true }
-    ensures { Gives link_of result (connection_with_width left.now right.now) }
+/// What stands behind the arrow, cut into the right end, the width and the options.
+pub fn right_in(right: &[u8]) -> Result<LentPart<'_>, TextKind>
+    ensures { Gives part_of result (right_in right.now) }
 {
-    if !ends_in_bracket(right) {
+    if !has(right, b'[') {
+        let (end, options) = around_blank(right);
+        return Ok(LentPart {
+            end,
+            width: None,
+            options,
+        });
+    }
+    let (end, inside) = around(b'[', right);
+    if !has(inside, b']') {
         return Err(TextKind::BadLine);
     }
-    let from = end_in(left)?;
-    let to = end_in(before_first(right, b'['))?;
-    let width = width_in(without_last(after_first(right, b'[')))?;
-    Ok(Connection {
-        from,
-        to,
+    let (width, options) = around(b']', inside);
+    Ok(LentPart {
+        end,
         width: Some(width),
+        options,
     })
 }
 
-fn connection_without_width<'a>(left: &'a [u8], right: &'a [u8]) -> Result<Connection<'a>, TextKind>
-    ensures { Gives link_of result (connection_without_width left.now right.now) }
+fn width_given(text: Option<&[u8]>) -> Result<Option<u32>, TextKind>
+    ensures { Gives (λ n. n) result (width_given (option_map (λ t. t.now) text.entry)) }
 {
-    let from = end_in(left)?;
-    let to = end_in(right)?;
-    Ok(Connection {
+    match text {
+        None => Ok(None),
+        Some(text) => {
+            let width = width_in(text)?;
+            Ok(Some(width))
+        }
+    }
+}
+
+fn directed<'a>(
+    arrow: Arrow,
+    left: End<'a>,
+    right: End<'a>,
+    width: Option<u32>,
+    options: LinkOptions,
+) -> Connection<'a>
+    ensures { link_of result ≡ directed arrow (names_of left.entry) (names_of right.entry) width options }
+{
+    let (from, to) = match arrow {
+        Arrow::FromSender => (left, right),
+        Arrow::FromReceiver => (right, left),
+    };
+    Connection {
         from,
         to,
-        width: None,
-    })
+        width,
+        options,
+    }
 }
 
-fn connection_between<'a>(left: &'a [u8], behind: &'a [u8]) -> Result<Connection<'a>, TextKind>
-    ensures { Gives link_of result (connection_between left.now behind.now) }
+fn connection_of(cut: LentCut<'_>) -> Result<Connection<'_>, TextKind>
+    ensures { Gives link_of result (connection_of (cut_of cut.entry)) }
 {
-    if has(left, b'"') || has(behind, b'"') {
+    if has(cut.before, b'"') || has(cut.behind, b'"') {
         return Err(TextKind::BadLine);
     }
-    let right = trimmed(behind);
-    if has(right, b'[') {
-        connection_with_width(left, right)
-    } else {
-        connection_without_width(left, right)
-    }
+    let part = right_in(trimmed(cut.behind))?;
+    let left = end_in(cut.before)?;
+    let right = end_in(part.end)?;
+    let width = width_given(part.width)?;
+    let options = options_in(part.options).ok_or(TextKind::BadOption)?;
+    Ok(directed(cut.arrow, left, right, width, options))
 }
 
 /// The connection that the content states.
@@ -132,6 +146,6 @@ pub fn connection_in(content: &[u8]) -> Result<Connection<'_>, TextKind>
 {
     match split_at_arrow(content) {
         None => Err(TextKind::BadLine),
-        Some((left, behind)) => connection_between(left, behind),
+        Some(cut) => connection_of(cut),
     }
 }

@@ -6,7 +6,8 @@ ghost use Rattle.config_text.specs.Contents.{is_quoted, value_in, section_in, is
 ghost use Rattle.config_text.specs.Inner.{Gives, seen, setting_before};
 
 use crate::TextKind;
-use crate::connection::{Connection, connection_in, has_arrow};
+use crate::arrows::has_arrow;
+use crate::connection::{Connection, connection_in};
 use crate::parts::{
     after_first, before_comment, before_first, between_ends, ends_in_bracket, has, is_text,
     name_in, trimmed, without_cr,

@@ -1,5 +1,6 @@
 ghost use Rattle.std.specs.Prelude.{true, ◌<◌, ◌≡◌, ◌==◌, ◌∷◌, ◌++◌, [], length, OnOk, OnErr};
 ghost use Rattle.config_text.specs.Connections.{is_width, is_link};
+ghost use Rattle.config_text.specs.Options.{is_latency, is_buffered};
 ghost use Rattle.config_text.specs.Lawful.{are_links};
 
 use crate::LinkText;
@@ -7,7 +8,8 @@ use music_base::NoMemory;
 use std::alloc::Global;
 use std::marker::Model;
 
-/// Connections in the order of the text: at most 64, each width 1 to 65,536. Contracts see a list.
+/// Connections in the order of the text: at most 64. Each width is 1 to 65,536, each latency at most 10^15 ns, and each
+/// `buffered` 1 to 1,000,000. Contracts see a list.
 #[derive(Debug, Drop)]
 pub struct Links {
     items: Vec<LinkText>,
@@ -27,7 +29,9 @@ impl Model for Links {
 
 /// By their types the four names are names.
 fn lawful(link: &LinkText)
-    requires { is_width link.now.width ≡ true }
+    requires width { is_width link.now.width ≡ true }
+    requires latency { is_latency link.now.latency ≡ true }
+    requires buffered { is_buffered link.now.buffered ≡ true }
     ensures { is_link link.now ≡ true }
 {
     let _from_app = link.from_app.as_slice();
@@ -65,10 +69,12 @@ impl Links {
         self.items.as_slice()
     }
 
-    /// Appends a connection, where there are fewer than 64. Its width is not stated, or 1 to 65,536. Where memory is
-    /// wanting the list stays as it was.
+    /// Appends a connection, where there are fewer than 64. What it states is within the limits: a width of 1 to 65,536, a
+    /// latency of at most 10^15 ns, and a `buffered` of 1 to 1,000,000. Where memory is wanting the list stays as it was.
     pub fn push(&mut self, link: LinkText) -> Result<(), NoMemory>
         requires width { is_width link.width ≡ true }
+        requires latency { is_latency link.latency ≡ true }
+        requires buffered { is_buffered link.buffered ≡ true }
         requires room { length self.old < 64 }
         ensures ok { OnOk result (self.new ≡ self.old ++ link ∷ []) }
         ensures err { OnErr result (self.new ≡ self.old) }

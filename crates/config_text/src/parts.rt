@@ -4,7 +4,7 @@ ghost use Rattle.std.specs.Prelude.{◌≡◌, ◌==◌, ◌+◌, ◌<◌, ◌�
 ghost use Rattle.std.specs.List.{position, position_or_len, list_all, list_any, before_first, after_first};
 ghost use Rattle.music_base.specs.Blanks.{is_blank};
 ghost use Rattle.config_text.specs.Bytes.{close_bracket, is_text_byte, is_quote};
-ghost use Rattle.config_text.specs.Parts.{without_cr, before_comment, trimmed, without_leading_blanks, without_trailing_blanks, begins_with_blank, ends_with_blank, ends_in, between_ends, without_last, name_in, is_value};
+ghost use Rattle.config_text.specs.Parts.{without_cr, before_comment, trimmed, without_leading_blanks, without_trailing_blanks, begins_with_blank, ends_with_blank, ends_in, between_ends, name_in, is_value};
 ghost use Rattle.config_text.specs.Inner.{Gives};
 
 use crate::TextKind;
@@ -100,12 +100,6 @@ pub fn between_ends(bytes: &[u8]) -> &[u8]
     &bytes[1..bytes.len() - 1]
 }
 
-pub fn without_last(bytes: &[u8]) -> &[u8]
-    ensures { result.now ≡ without_last bytes.now }
-{
-    &bytes[..bytes.len().saturating_sub(1)]
-}
-
 /// Whether the byte stands anywhere.
 pub fn has(bytes: &[u8], byte: u8) -> bool
     ensures { result ≡ list_any (λ b. b == byte) bytes.now }
@@ -137,6 +131,33 @@ pub fn after_first(bytes: &[u8], byte: u8) -> &[u8]
         &bytes[place + 1..]
     } else {
         &bytes[bytes.len()..]
+    }
+}
+
+fn blank_place(bytes: &[u8]) -> Option<usize>
+    ensures { result ≡ position is_blank bytes.now }
+{
+    bytes.iter().position(|b| is_blank(*b))
+}
+
+#[tactic(auto, using(music_base::proofs::FirstPlaces::place_or_len))]
+fn blank_or_end(bytes: &[u8]) -> usize
+    ensures place { result ≡ position_or_len is_blank bytes.now }
+    ensures within { result ≤ length bytes.now }
+{
+    blank_place(bytes).unwrap_or(bytes.len())
+}
+
+/// What stands before the first blank, all where there is none, and what stands after it.
+pub fn around_blank(bytes: &[u8]) -> (&[u8], &[u8])
+    ensures before { result.0.now ≡ before_first is_blank bytes.now }
+    ensures after { result.1.now ≡ after_first is_blank bytes.now }
+{
+    let place = blank_or_end(bytes);
+    if place < bytes.len() {
+        (&bytes[..place], &bytes[place + 1..])
+    } else {
+        (bytes, &[])
     }
 }
 

@@ -16,7 +16,7 @@ use crate::connection::Connection;
 use crate::content::{LentContent, content_of};
 use crate::lines::{LONGEST_TEXT, split_line};
 use crate::{Config, LinkText, Settings, TextFault, TextKind};
-use music_base::{Name, NoMemory, Word};
+use music_base::{Name, Nanos, NoMemory, Word};
 use std::alloc::Global;
 
 /// How many sections a text may have.
@@ -125,6 +125,8 @@ fn link_text(alloc: Global, lent: Connection<'_>) -> Result<LinkText, NoMemory>
         to_app,
         to_port,
         width: lent.width,
+        latency: lent.options.latency.map(|time| Nanos(time)),
+        buffered: lent.options.buffered,
     })
 }
 
@@ -178,9 +180,10 @@ fn at_line(line: u64, fault: LineFault) -> TextFault
 /// Reads the one configuration that the bytes spell.
 ///
 /// Lines end with LF, or with CR and LF. Blanks at both ends of a line and a comment, which runs from a `#` outside
-/// quotation marks, are dropped. What is left is nothing, `[NAME]`, `NAME=VALUE` or `NAME.NAME -> NAME.NAME [WIDTH]`,
-/// where the width in its brackets may be absent, and blanks may stand between the parts. A value may stand in
-/// quotation marks.
+/// quotation marks, are dropped. What is left is nothing, `[NAME]`, `NAME=VALUE` or a connection, from its sender as
+/// `NAME.NAME -> NAME.NAME [WIDTH] latency=TIME buffered=COUNT`, or from its receiver with `<-`. The width in its brackets
+/// and each option may be absent, the options may stand in either order, and blanks may stand between the parts. A value
+/// may stand in quotation marks.
 ///
 /// Where the bytes spell none, the answer is the first faulty line, counted from 1, with its first fault. A text of more
 /// than 1,048,576 bytes is `TooLong` at line 0, and nothing of it is looked at. The text is gone through once, in time

@@ -11,6 +11,9 @@ pub enum TextKind {
     BadName,
     /// What stands in the brackets behind a connection is no number of 1 to 65,536.
     BadWidth,
+    /// What stands behind the ends and the width of a connection is no list of options: `latency=TIME`, a time of at most
+    /// 10^15 ns, and `buffered=COUNT`, a number of 1 to 1,000,000, each at most once.
+    BadOption,
     /// A section of this name stands above.
     RepeatedSection,
     /// A setting of this name stands above in the same section, or among the defaults where it is one of them.

@@ -3,6 +3,7 @@
 ghost use Rattle.std.specs.Prelude.{◌≡◌, ◌++◌, ◌≤◌, length, map, true, IfOk, OnOk};
 ghost use Rattle.std.specs.List.{flat_map};
 ghost use Rattle.config_text.specs.Connections.{end_text, width_text, link_line};
+ghost use Rattle.config_text.specs.Options.{latency_text, buffered_text};
 ghost use Rattle.music_base.specs.Lines.{ended};
 ghost use Rattle.config_text.specs.Canon.{needs_quotes, raw_value, setting_line, header_line, section_lines, canon, is_lawful_config};
 ghost use Rattle.config_text.specs.Lawful.{are_settings, are_sections};
@@ -11,7 +12,7 @@ ghost use Rattle.config_text.specs.Text.{Spells};
 
 use crate::parts::{begins_with_blank, ends_with_blank, has};
 use crate::{Config, LinkText, Sections, Settings};
-use music_base::{Name, NoMemory, Word};
+use music_base::{Name, Nanos, NoMemory, Word, write_time};
 use std::alloc::Global;
 
 fn needs_quotes(value: &[u8]) -> bool
@@ -100,6 +101,27 @@ fn put_width(out: &mut Vec<u8>, alloc: Global, width: Option<u32>) -> Result<(),
     Ok(())
 }
 
+fn put_latency(out: &mut Vec<u8>, alloc: Global, latency: Option<Nanos>) -> Result<(), NoMemory>
+    ensures { OnOk result (out.new.items ≡ out.old.items ++ latency_text latency) }
+{
+    if let Some(latency) = latency {
+        out.extend_from_slice(b" latency=")?;
+        let time = write_time(alloc, latency)?;
+        out.extend_from_slice(time.as_slice())?;
+    }
+    Ok(())
+}
+
+fn put_buffered(out: &mut Vec<u8>, alloc: Global, buffered: Option<u64>) -> Result<(), NoMemory>
+    ensures { OnOk result (out.new.items ≡ out.old.items ++ buffered_text buffered) }
+{
+    if let Some(buffered) = buffered {
+        let text = format!(in alloc; " buffered={buffered}")?;
+        out.extend_from_slice(text.as_bytes())?;
+    }
+    Ok(())
+}
+
 fn put_link(out: &mut Vec<u8>, alloc: Global, link: &LinkText) -> Result<(), NoMemory>
     ensures { OnOk result (out.new.items ≡ out.old.items ++ ended (link_line link.now)) }
 {
@@ -107,6 +129,8 @@ fn put_link(out: &mut Vec<u8>, alloc: Global, link: &LinkText) -> Result<(), NoM
     out.extend_from_slice(b" -> ")?;
     put_end(out, &link.to_app, &link.to_port)?;
     put_width(out, alloc, link.width)?;
+    put_latency(out, alloc, link.latency)?;
+    put_buffered(out, alloc, link.buffered)?;
     out.push(b'\n')?;
     Ok(())
 }
@@ -134,7 +158,8 @@ fn written(alloc: Global, config: &Config) -> Result<Vec<u8>, NoMemory>
 
 /// Writes the canonical spelling of the configuration: the defaults, then each section with its line and its settings,
 /// then the connections. Each line ends with LF. A value stands in quotation marks exactly where it begins or ends with a
-/// blank or holds a `#`.
+/// blank or holds a `#`. A connection is `a.p -> b.q` and then, each where it is stated and after one space, its width
+/// `[7]`, `latency=` with the canonical time, and `buffered=3`.
 ///
 /// Where it has at most 1,048,576 bytes, `read_config` reads it as an equal configuration.
 pub fn write_config(alloc: Global, config: &Config) -> Result<Vec<u8>, NoMemory>

@@ -1,5 +1,0 @@
-use Rattle.config_text.proofs.Arrows.{IsBeforeArrow}
-use Rattle.config_text.proofs.connection.split_at_arrow.Given as goal
-
-abbrev pub invariant-loop-i : goal.invariant-loop-i
-invariant-loop-i l = IsBeforeArrow l.bytes l.i
