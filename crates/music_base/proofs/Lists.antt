@@ -1,13 +1,15 @@
 -- What filter, map and flat_map give, and consecutive numbers.
-use Rattle.std.proofs.Common.{◌≡◌, ℕ, zero, suc, ◌+◌, ◌<◌, ◌≤◌, min, Bool, true, false, not, ◌&&◌, nat_eq, nat_le, nat_lt, List, [], ◌∷◌, ◌++◌, length, get_or, map, refl, sym, ap, inl, inr, arith, add-zero, zero-add}
+use Rattle.std.proofs.Common.{◌≡◌, ℕ, zero, suc, ◌+◌, ◌<◌, ◌≤◌, min, Bool, true, false, cond, not, ◌&&◌, nat_eq, nat_le, nat_lt, List, [], ◌∷◌, ◌++◌, length, get_or, map, refl, sym, ap, inl, inr, arith, add-zero, zero-add}
 use Rattle.std.specs.Prelude.{◌==◌}
+use Rattle.std.specs.declared.cmp.Ordering.{Ordering}
+use Rattle.std.specs.Ordering.{is_gt}
 use Rattle.std.specs.List.{filter, flat_map, list_all, list_any, range_with_len, AllByRecursion}
 use Rattle.std.proofs.lemmas.Bool.{cases_Bool, cases_eq, cases_lt, eq-eqb, ne_eqb, lt-ltb, le-ltb, and_parts, or_parts, not-true}
 use Rattle.std.proofs.lemmas.Bool.Decides.{nat_tests}
 use Rattle.std.proofs.lemmas.List.{map-append}
 use Rattle.std.proofs.lemmas.List.Elements.{filter-append}
 use Rattle.std.proofs.lemmas.List.Folds.{list_any-append}
-use Rattle.music_base.specs.Numbers.{all_differ}
+use Rattle.music_base.specs.Numbers.{all_differ, below, in_order, put_in_order}
 
 -- ---- what holds of each element
 
@@ -36,10 +38,56 @@ All-at P [] i d h lt = absurd (omega arith)
 All-at P (x ∷ xs) zero d h lt = h.0
 All-at P (x ∷ xs) (suc i) d h lt = All-at P xs i d h.1 (omega arith)
 
+-- what holds of each element and of what stands for an absent one
+pub All-get_or : {X : Type 0} (P : X → Type 0) (xs : List X) (i : ℕ) (d : X) → P d → AllByRecursion P xs → P (get_or xs i d)
+All-get_or P [] i d none h = none
+All-get_or P (x ∷ xs) zero d none h = h.0
+All-get_or P (x ∷ xs) (suc i) d none h = All-get_or P xs i d none h.1
+
+pub All-append : {X : Type 0} (P : X → Type 0) (xs ys : List X) → AllByRecursion P xs → AllByRecursion P ys → AllByRecursion P (xs ++ ys)
+All-append P [] ys h k = k
+All-append P (x ∷ xs) ys h k = (h.0, All-append P xs ys h.1 k)
+
+pub All-flat_map : {X Y : Type 0} (P : Y → Type 0) (f : X → List Y) (xs : List X) → AllByRecursion (λ x. AllByRecursion P (f x)) xs → AllByRecursion P (flat_map f xs)
+All-flat_map P f [] h = tt
+All-flat_map P f (x ∷ xs) h = All-append P (f x) (flat_map f xs) h.0 (All-flat_map P f xs h.1)
+
+-- where each value of f has it
+pub All-map_of : {X Y : Type 0} (P : Y → Type 0) (f : X → Y) → ((x : X) → P (f x)) → (xs : List X) → AllByRecursion P (map f xs)
+All-map_of P f each xs = All-map P f xs (All-of (λ x. P (f x)) each xs)
+
+pub All-flat_map_of : {X Y : Type 0} (P : Y → Type 0) (f : X → List Y) → ((x : X) → AllByRecursion P (f x)) → (xs : List X) → AllByRecursion P (flat_map f xs)
+All-flat_map_of P f each xs = All-flat_map P f xs (All-of (λ x. AllByRecursion P (f x)) each xs)
+
+-- a list that stands where a test passes
+pub All-when : {X : Type 0} (P : X → Type 0) (b : Bool) (xs : List X) → (b ≡ true → AllByRecursion P xs) → AllByRecursion P (cond b xs [])
+All-when P true xs h = h refl
+All-when P false xs h = tt
+
+-- putting in order adds nothing
+All-put_in_order : {X : Type 0} (P : X → Type 0) (cmp : X → X → Ordering) (x : X) (xs : List X) → P x → AllByRecursion P xs → AllByRecursion P (put_in_order cmp x xs)
+All-put_in_order P cmp x [] is h = (is, tt)
+All-put_in_order P cmp x (y ∷ ys) is h = elim (cases_Bool (is_gt (cmp x y))) [
+  | inl later ↦ rw later (h.0, All-put_in_order P cmp x ys is h.1)
+  | inr first ↦ rw first (is, h)
+]
+
+pub All-in_order : {X : Type 0} (P : X → Type 0) (cmp : X → X → Ordering) (xs : List X) → AllByRecursion P xs → AllByRecursion P (in_order cmp xs)
+All-in_order P cmp [] h = tt
+All-in_order P cmp (x ∷ xs) h = All-put_in_order P cmp x (in_order cmp xs) h.0 (All-in_order P cmp xs h.1)
+
+-- what holds of consecutive numbers between their ends
+pub All-between : (P : ℕ → Type 0) (a n : ℕ) → ((i : ℕ) → a ≤ i → i < a + n → P i) → AllByRecursion P (range_with_len a n)
+All-between P a zero h = tt
+All-between P a (suc n) h = (h a (omega arith) (omega arith), All-between P (a + 1) n (λ i low high. h i (omega arith) (omega arith)))
+
+-- and of those below n
+pub All-below : (P : ℕ → Type 0) (n : ℕ) → ((i : ℕ) → i < n → P i) → AllByRecursion P (below n)
+All-below P n h = All-between P 0 n (λ i low high. h i (omega arith))
+
 -- what holds from a on holds of consecutive numbers from a on
 pub All-range_with_len : (P : ℕ → Type 0) (a n : ℕ) → ((i : ℕ) → a ≤ i → P i) → AllByRecursion P (range_with_len a n)
-All-range_with_len P a zero h = tt
-All-range_with_len P a (suc n) h = (h a (omega arith), All-range_with_len P (a + 1) n (λ i low. h i (omega arith)))
+All-range_with_len P a n h = All-between P a n (λ i low high. h i low)
 
 -- ---- elements that differ
 
@@ -51,7 +99,7 @@ all_differ-push eq (x ∷ xs) y differ none =
     let apart = or_parts (eq x y) (list_any (λ z. eq z y) xs) none in
     rw (list_any-append (eq x) xs (y ∷ []), not-true (list_any (eq x) xs) front.0, apart.0) (all_differ-push eq xs y front.1 apart.1)
 
-none_passes : {X : Type 0} (p : X → Bool) (xs : List X) (i : ℕ) (d : X) → list_any p xs ≡ false → i < length xs → p (get_or xs i d) ≡ false
+pub none_passes : {X : Type 0} (p : X → Bool) (xs : List X) (i : ℕ) (d : X) → list_any p xs ≡ false → i < length xs → p (get_or xs i d) ≡ false
 none_passes p [] i d none lt = absurd (omega arith)
 none_passes p (x ∷ xs) zero d none lt = (or_parts (p x) (list_any p xs) none).0
 none_passes p (x ∷ xs) (suc i) d none lt = none_passes p xs i d (or_parts (p x) (list_any p xs) none).1 (omega arith)
