@@ -1,4 +1,4 @@
-//! The limits that the ends of connections state.
+//! The limits that connections and their ends state.
 ghost use Rattle.std.specs.Prelude.{◌≡◌, ◌<◌, ◌≤◌, ◌*◌, ◌/◌, ◌^◌, length, All, IfOk, IfSome};
 ghost use Rattle.std.specs.Int.{IsInRange};
 ghost use Rattle.scene_model.specs.Faults.{IsFaultless};
@@ -9,7 +9,7 @@ use music_base::{LinkId, Nanos, NoMemory};
 use scene_model::Scene;
 use std::alloc::Global;
 
-/// How many blocks a connection may keep at most, whatever its ends state.
+/// How many blocks a connection may keep at most, whatever is stated.
 pub const GREATEST_LIMIT: u64 = 100_000_000_000_000_000;
 
 /// So many ticks of the receiver, in whole ticks of the sender.
@@ -61,18 +61,19 @@ fn stated_limit(scene: &Scene, link: LinkId) -> Option<u64>
     ensures lawful { IsLawfulLimit result }
 {
     let (output, input) = (scene.output_of(link), scene.input_of(link));
-    match stated_by(scene, link, output.buffered, input.buffered) {
+    let own = scene.link(link).buffered;
+    match own.or(stated_by(scene, link, output.buffered, input.buffered)) {
         None => None,
         Some(limit) => Some(limit.min(GREATEST_LIMIT)),
     }
 }
 
-/// For each connection of the scene how many blocks it keeps at most, where one of its ends states how many of its ticks
-/// are buffered.
+/// For each connection of the scene how many blocks it keeps at most, where the connection or one of its ends states that.
+/// A block is one tick of the sender.
 ///
-/// It is counted in ticks of the sender. Ticks that the input states are taken as so many whole ticks of the sender as
-/// their time holds, and where both ends state some, the lesser number counts. A limit is at least 1, and one above
-/// `GREATEST_LIMIT` is taken as that.
+/// The number of blocks that a connection states counts as it stands. Where it states none, the ticks that its ends buffer
+/// count: those of the output as they stand, those of the input as so many whole ticks of the sender as their time holds,
+/// and of both the lesser number. A limit is at least 1, and one above `GREATEST_LIMIT` is taken as that.
 ///
 /// The scene has no fault.
 pub fn stated_limits(alloc: Global, scene: &Scene) -> Result<Vec<Option<u64>>, NoMemory>

@@ -29,7 +29,7 @@ mod word;
 
 pub use arithmetic::{floor_to, gcd};
 pub use bytes::{byte_place, is_blank};
-pub use clocks::{due, steps_of};
+pub use clocks::{due, due_from, steps_of};
 pub use copying::{TryCopy, copy_all};
 pub use counts::{count_up_to, is_negative, is_short_count, number_of, without_sign};
 pub use errors::{Failed, NoMemory};

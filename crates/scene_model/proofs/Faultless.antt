@@ -1,12 +1,14 @@
 -- What holds of the parts of a scene without a fault, by their places.
 use Rattle.std.proofs.Common.{◌≡◌, ℕ, zero, suc, ◌+◌, ◌<◌, ◌≤◌, Bool, true, false, ◌&&◌, List, [], ◌∷◌, length, refl, sym, ap, subst, ◌∙◌, inl, inr, arith}
-use Rattle.std.specs.Prelude.{nat_lt, ◌==◌, Some, None}
+use Rattle.std.specs.Prelude.{nat_lt, nat_le, ◌==◌, Option, Some, None, IfSome}
+use Rattle.std.specs.Option.{unwrap_or}
 use Rattle.std.specs.Int.{IsInRange}
 use Rattle.std.specs.List.{filter, find, list_all, list_any, range_with_len}
-use Rattle.std.proofs.lemmas.Bool.{and_parts, cases_Bool, cases_eq, cases_lt, eqb-true, lt-ltb, ltb-true, ne_eqb}
+use Rattle.std.proofs.lemmas.Bool.{and_parts, cases_Bool, cases_eq, cases_lt, eqb-true, leb-true, lt-ltb, ltb-true, ne_eqb}
 use Rattle.std.proofs.lemmas.List.{get_or_past}
 use Rattle.std.proofs.lemmas.List.Sums.{AllPass-from_list_all}
 use Rattle.music_base.specs.Clocks.{steps_until}
+use Rattle.music_base.specs.Times.{greatest_time}
 use Rattle.music_base.proofs.Lists.{All-at, All-of, all_differ-at, filter-agree_within, filter-none}
 use Rattle.index_maps.specs.Intervals.{first_shared, is_shared, ranks_mapping}
 use Rattle.index_maps.specs.Maps.{indices, maps_index}
@@ -16,7 +18,7 @@ use Rattle.index_maps.proofs.Counts.{maps_index-ranks_mapping}
 use Rattle.scene_model.specs.Clocks.{delay, latency, steps, tick}
 use Rattle.scene_model.specs.Connections.{IsConnection}
 use Rattle.scene_model.specs.Faults.{IsApp, IsFaultless}
-use Rattle.scene_model.specs.Limits.{longest_tick, most_steps}
+use Rattle.scene_model.specs.Limits.{longest_tick, most_buffered, most_steps}
 use Rattle.scene_model.specs.Links.{directions_fit, has_end, has_ends}
 use Rattle.scene_model.specs.Links as links
 use Rattle.scene_model.specs.Ports.{IsPort, output_twice, same_kind}
@@ -37,7 +39,7 @@ directed Output Output is = absurd cc
 directed Input Output is = absurd cc
 directed Input Input is = absurd cc
 
-of_one_kind : (kind other : PortKind) → same_kind kind other ≡ true → kind ≡ other
+pub of_one_kind : (kind other : PortKind) → same_kind kind other ≡ true → kind ≡ other
 of_one_kind Events Events is = refl
 of_one_kind Values Values is = refl
 of_one_kind Messages Messages is = refl
@@ -47,6 +49,30 @@ of_one_kind Values Events is = absurd cc
 of_one_kind Values Messages is = absurd cc
 of_one_kind Messages Events is = absurd cc
 of_one_kind Messages Values is = absurd cc
+
+-- what a connection states lies within its limits
+pub record HasNumbers (link : Link) : Type 0 where
+  pub latency : IfSome link.latency (λ latency. latency ≤ greatest_time)
+  pub buffered : IfSome link.buffered (IsInRange 1 most_buffered)
+
+early : (latency : Option ℕ) → links.is_latency latency ≡ true → IfSome latency (λ latency. latency ≤ greatest_time)
+early None is = tt
+early (Some latency) is = leb-true latency greatest_time is
+
+keeps_some : (buffered : Option ℕ) → links.is_buffered buffered ≡ true → IfSome buffered (IsInRange 1 most_buffered)
+keeps_some None is = tt
+keeps_some (Some blocks) is = let parts = and_parts (nat_le 1 blocks) (nat_le blocks most_buffered) is in (leb-true 1 blocks parts.0, leb-true blocks most_buffered parts.1)
+
+numbers_of : (link : Link) → links.has_lawful_numbers link ≡ true → HasNumbers link
+numbers_of link are =
+    let first = and_parts (links.is_width link.width && links.is_latency link.latency) (links.is_buffered link.buffered) are in
+    let second = and_parts (links.is_width link.width) (links.is_latency link.latency) first.0 in
+    record { latency = early link.latency second.1; buffered = keeps_some link.buffered first.1 }
+
+-- a time of its own, or else another
+own_or : (own : Option ℕ) (other : ℕ) → IfSome own (λ time. time ≤ greatest_time) → other ≤ greatest_time → unwrap_or own other ≤ greatest_time
+own_or None other is le = le
+own_or (Some own) other is le = is
 
 -- ---- what lists tell
 
@@ -87,8 +113,8 @@ mapped_once map g none = elim (cases_lt 1 (ranks_mapping map g)) [
 module _ (scene : Scene) (faultless : IsFaultless scene) where
   -- ---- applications and ports
 
-  pub app_is : (a : ℕ) → a < length scene.apps → IsApp scene.stop (app_at scene a)
-  app_is a lt = All-at (IsApp scene.stop) scene.apps a no_app faultless.apps.each lt
+  pub app_is : (a : ℕ) → a < length scene.apps → IsApp (app_at scene a)
+  app_is a lt = All-at IsApp scene.apps a no_app faultless.apps.each lt
 
   pub port_is : (a p : ℕ) → a < length scene.apps → p < length (app_at scene a).ports → IsPort (app_at scene a).np (port_at scene a p)
   port_is a p lt within = All-at (IsPort (app_at scene a).np) (app_at scene a).ports p no_port (app_is a lt).ports.each within
@@ -115,6 +141,9 @@ module _ (scene : Scene) (faultless : IsFaultless scene) where
       let parts = and_parts (nat_lt a (length scene.apps)) (nat_lt p (length (app_at scene a).ports)) is in
       (ltb-true _ _ parts.0, ltb-true _ _ parts.1)
 
+  pub numbers_are : (c : ℕ) → c < length scene.links → HasNumbers (link_at scene c)
+  numbers_are c lt = numbers_of (link_at scene c) (passes links.has_lawful_numbers c faultless.link_numbers lt)
+
   pub connection_is : (c : ℕ) → c < length scene.links → IsConnection scene c
   unfolding sender receiver has_ends links.output_of links.input_of latency delay
   connection_is c lt =
@@ -132,8 +161,8 @@ module _ (scene : Scene) (faultless : IsFaultless scene) where
         from_output = directions.0;
         to_input = directions.1;
         of_one_kind = of_one_kind (output_of scene c).kind (input_of scene c).kind (passes (links.is_of_one_kind scene.apps) c faultless.links.of_one_kind lt);
-        latency = input.latency;
-        delay = input.delay;
+        latency = own_or (link_at scene c).latency _ (numbers_are c lt).latency input.latency;
+        delay = own_or (link_at scene c).latency _ (numbers_are c lt).latency input.delay;
       }
 
   -- ---- two connections

@@ -26,3 +26,10 @@ pub mod WellFormedScenes
 pub mod WorkedFaultless
 pub mod WorkedCycles
 pub mod WorkedLimits
+pub mod Together
+pub mod Unstated
+pub mod WorkedTimes
+pub mod Emissions
+pub mod ProperLives
+pub mod WrittenLives
+pub mod WrittenRows

@@ -2,14 +2,14 @@
 use Rattle.std.proofs.Common.{◌≡◌, ◌↔◌, ℕ, zero, suc, ◌+◌, ◌-◌, ◌*◌, ◌<◌, ◌≤◌, [], ◌++◌, map, length, refl, sym, ap, subst, ◌∙◌, inl, inr, arith, zero-add}
 use Rattle.std.specs.Int.{div_ceil}
 use Rattle.std.specs.Prelude.{Contains}
-use Rattle.std.specs.List.{flat_map, range_with_len}
+use Rattle.std.specs.List.{flat_map, range_with_len, AllByRecursion}
 use Rattle.std.proofs.lemmas.Bool.{cases_lt}
 use Rattle.std.proofs.lemmas.List.{append-nil, map-append}
 use Rattle.std.proofs.lemmas.List.Concat.{flat_map-append}
 use Rattle.std.proofs.lemmas.List.FromFn.{length-map-range_with_len, get_or-map-range_with_len}
 use Rattle.music_base.specs.Numbers.{below}
 use Rattle.music_base.proofs.Divisions.{lt-div_ceil}
-use Rattle.music_base.proofs.Lists.{range_with_len-append, range_with_len-more}
+use Rattle.music_base.proofs.Lists.{All-between, All-map, range_with_len-append, range_with_len-more}
 use Rattle.scene_model.specs.Turns.{times_below, times_between}
 use Rattle.scene_model.specs.PeriodTimes.{IsTimeBetween}
 
@@ -104,4 +104,19 @@ Contains-times_between every first from to time pos =
           ] in
           let inside : t.periods - a < n = omega arith in
           (t.periods - a, omega (arith, size), get_or-map-range_with_len at a n (t.periods - a) t.periods time inside (omega arith) ∙ sym t.is),
+    )
+
+-- each of the times between two ends lies between them
+pub times_between-within : (every first from to : ℕ) → 1 ≤ every → AllByRecursion (λ t. (from ≤ t) × (t < to)) (times_between every first from to)
+unfolding times_between
+times_between-within every first from to pos = All-map _ _ _ (All-between _ _ _ each)
+  where
+    each : (i : ℕ) → times_below every first from ≤ i → i < times_below every first from + (times_below every first to - times_below every first from)
+        → (from ≤ first + i * every) × (first + i * every < to)
+    each i low high = (
+      elim (cases_lt (first + i * every) from) [
+        | inl lt ↦ absurd (let early : i < times_below every first from = (lt-times_below every first from i pos).1 lt in omega arith)
+        | inr le ↦ le
+      ],
+      (lt-times_below every first to i pos).0 (omega arith),
     )

@@ -31,10 +31,10 @@ common_divisor_at scene c timed =
     let divides : IsGcd send receive (common_divisor scene c) = gcd-divides send receive in
     record { some = pos_of_dvd_of_pos divides.0 timed.sends.tick_from; within = le_of_dvd timed.receives.tick_from divides.1 }
 
--- a rounded allowance is not far below zero, and not far above the greatest time
+-- a rounded allowance is not far below the greatest time before zero, and not far above twice the greatest time
 pub record IsRounded (x : ℤ) : Type 0 where
-  pub low : pos 0 ≤ℤ (x +ℤ pos (2 * longest_tick))
-  pub high : x ≤ℤ pos (greatest_time + longest_tick)
+  pub low : pos 0 ≤ℤ (x +ℤ pos (greatest_time + 2 * longest_tick))
+  pub high : x ≤ℤ pos (2 * greatest_time + longest_tick)
 
 pub rounded_at : (scene : Scene) (c : ℕ) → IsTimed scene c → IsRounded (rounded scene c)
 rounded_at scene c timed =

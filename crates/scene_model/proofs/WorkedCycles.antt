@@ -6,7 +6,7 @@ use Rattle.std.proofs.lemmas.Bool.Decides.{nat_tests}
 use Rattle.std.proofs.lemmas.Int.{ints}
 use Rattle.std.proofs.lemmas.List.Elements.{All-nil, All-cons, All-from_recursion}
 use Rattle.music_base.specs.Numbers.{gcd, floor_to}
-use Rattle.scene_model.specs.Clocks.{allowance, latency, delay, tick}
+use Rattle.scene_model.specs.Clocks.{allowance, latency, delay, start, tick}
 use Rattle.scene_model.specs.Scenes.{sender, receiver}
 use Rattle.scene_model.specs.Cover.{AllCovered, Passes, IsReportable, allowances, burdens}
 use Rattle.scene_model.specs.Waits.{stated, stated_waits, block_wait, room_wait, IsAccepted}
@@ -45,38 +45,38 @@ covered_by n potentials all passed = passed_are_covered n potentials all (All-fr
 -- ---- two applications that send to each other
 
 pub no_latency-uncovered : IsReportable (stated_waits no_latency) (for_each_other no_latency)
-unfolding allowance latency delay tick sender receiver gcd floor_to block_wait room_wait stated
+unfolding allowance latency delay start tick sender receiver gcd floor_to block_wait room_wait stated
 no_latency-uncovered = uncovered_pair (stated_waits no_latency) (block_wait no_latency 1) (block_wait no_latency 0) refl refl (omega arith) (1, omega arith, refl) (0, omega arith, refl) (omega (arith, ints))
 
 pub short_latency-uncovered : IsReportable (stated_waits short_latency) (for_each_other short_latency)
-unfolding allowance latency delay tick sender receiver gcd floor_to block_wait room_wait stated
+unfolding allowance latency delay start tick sender receiver gcd floor_to block_wait room_wait stated
 short_latency-uncovered = uncovered_pair (stated_waits short_latency) (block_wait short_latency 1) (block_wait short_latency 0) refl refl (omega arith) (1, omega arith, refl) (0, omega arith, refl) (omega (arith, ints))
 
 pub uneven_ticks-uncovered : IsReportable (stated_waits uneven_ticks) (for_each_other uneven_ticks)
-unfolding allowance latency delay tick sender receiver gcd floor_to block_wait room_wait stated
+unfolding allowance latency delay start tick sender receiver gcd floor_to block_wait room_wait stated
 uneven_ticks-uncovered = uncovered_pair (stated_waits uneven_ticks) (block_wait uneven_ticks 1) (block_wait uneven_ticks 0) refl refl (omega arith) (1, omega arith, refl) (0, omega arith, refl) (omega (arith, ints))
 
 pub latency_of_a_tick-accepted : IsAccepted latency_of_a_tick
-unfolding allowance latency delay tick sender receiver gcd floor_to block_wait room_wait stated
+unfolding allowance latency delay start tick sender receiver gcd floor_to block_wait room_wait stated
 latency_of_a_tick-accepted = covered_by 2 (pos 0 ∷ pos 1 ∷ []) (stated_waits latency_of_a_tick) (omega (arith, ints), (omega (arith, ints), tt))
 
 pub uneven_but_late-accepted : IsAccepted uneven_but_late
-unfolding allowance latency delay tick sender receiver gcd floor_to block_wait room_wait stated
+unfolding allowance latency delay start tick sender receiver gcd floor_to block_wait room_wait stated
 uneven_but_late-accepted = covered_by 2 (pos 0 ∷ pos 5_000_000 ∷ []) (stated_waits uneven_but_late) (omega (arith, ints), (omega (arith, ints), tt))
 
 -- ---- one application that sends to itself
 
 pub to_itself-uncovered : IsReportable (stated_waits to_itself) (for_itself to_itself)
-unfolding allowance latency delay tick sender receiver gcd floor_to block_wait room_wait stated
+unfolding allowance latency delay start tick sender receiver gcd floor_to block_wait room_wait stated
 to_itself-uncovered = uncovered_alone (stated_waits to_itself) (block_wait to_itself 0) refl (0, omega arith, refl) (omega (arith, ints))
 
 pub to_itself_late-accepted : IsAccepted to_itself_late
-unfolding allowance latency delay tick sender receiver gcd floor_to block_wait room_wait stated
+unfolding allowance latency delay start tick sender receiver gcd floor_to block_wait room_wait stated
 to_itself_late-accepted = covered_by 1 (pos 0 ∷ []) (stated_waits to_itself_late) (omega (arith, ints), tt)
 
 -- ---- two connections, of which the second has too little room
 
 pub little_room-uncovered : IsReportable (stated_waits little_room) (for_room_and_block little_room)
-unfolding allowance latency delay tick sender receiver gcd floor_to block_wait room_wait stated
+unfolding allowance latency delay start tick sender receiver gcd floor_to block_wait room_wait stated
 little_room-uncovered =
     uncovered_pair (stated_waits little_room) (room_wait little_room 1 3) (block_wait little_room 0) refl refl (omega arith) (2, omega arith, refl) (0, omega arith, refl) (omega (arith, ints))

@@ -9,17 +9,19 @@ use Rattle.scene_model.specs.Rules.{has_port, is_mapped, is_rate, runs_for}
 use Rattle.scene_model.specs.Scenes.{app_at}
 use Rattle.scene_model.specs.Values.{indices_mapped, values_in_step}
 use Rattle.scene_model.specs.WorkedRealistic.{clk, left, realistic, right, watch, wave}
-use Rattle.scene_model.specs.WorkedScenes.{event_each_tick, linear, ms, ramp_held, shared_index}
+use Rattle.scene_model.specs.WorkedScenes.{event_each_tick, linear, ramp_held, shared_index}
 use Rattle.scene_model.specs.declared.port.Direction.TheVariants.{Output, Input}
 use Rattle.scene_model.specs.declared.port.PortKind.TheVariants.{Messages}
 
 -- ---- two applications
 
-event_each_tick_sender : IsApp (ms 3) (app_at event_each_tick 0)
+event_each_tick_sender : IsApp (app_at event_each_tick 0)
 unfolding ranks_mapping first_shared steps_until has_port is_mapped is_rate runs_for indices_mapped values_in_step
 event_each_tick_sender = record {
   name = refl;
   np = (omega arith, omega arith);
+  start = omega arith;
+  stop = omega arith;
   tick = (omega arith, omega arith);
   few_steps = omega arith;
   ports = record { few = omega arith; each = (record { name = refl; ranks = refl; indices = refl; once = refl; message = tt; latency = omega arith; delay = omega arith; buffered = tt }, tt); differ = refl };
@@ -27,11 +29,13 @@ event_each_tick_sender = record {
   few_values = omega arith;
 }
 
-event_each_tick_receiver : IsApp (ms 3) (app_at event_each_tick 1)
+event_each_tick_receiver : IsApp (app_at event_each_tick 1)
 unfolding ranks_mapping first_shared steps_until has_port is_mapped is_rate runs_for indices_mapped values_in_step
 event_each_tick_receiver = record {
   name = refl;
   np = (omega arith, omega arith);
+  start = omega arith;
+  stop = omega arith;
   tick = (omega arith, omega arith);
   few_steps = omega arith;
   ports = record { few = omega arith; each = (record { name = refl; ranks = refl; indices = refl; once = refl; message = tt; latency = omega arith; delay = omega arith; buffered = tt }, tt); differ = refl };
@@ -45,15 +49,17 @@ event_each_tick_is = record {
   stop = omega arith;
   apps = record { few = omega arith; each = (event_each_tick_sender, (event_each_tick_receiver, tt)); differ = refl };
   few_links = omega arith;
-  widths = refl;
+  link_numbers = refl;
   links = record { with_ends = refl; directed = refl; of_one_kind = refl; within_width = refl; with_values = refl; pairs_once = refl; continuous_once = refl };
 }
 
-shared_index_sender : IsApp (ms 1) (app_at shared_index 0)
+shared_index_sender : IsApp (app_at shared_index 0)
 unfolding ranks_mapping first_shared steps_until has_port is_mapped is_rate runs_for indices_mapped values_in_step
 shared_index_sender = record {
   name = refl;
   np = (omega arith, omega arith);
+  start = omega arith;
+  stop = omega arith;
   tick = (omega arith, omega arith);
   few_steps = omega arith;
   ports = record { few = omega arith; each = (record { name = refl; ranks = refl; indices = refl; once = refl; message = tt; latency = omega arith; delay = omega arith; buffered = tt }, tt); differ = refl };
@@ -61,11 +67,13 @@ shared_index_sender = record {
   few_values = omega arith;
 }
 
-shared_index_receiver : IsApp (ms 1) (app_at shared_index 1)
+shared_index_receiver : IsApp (app_at shared_index 1)
 unfolding ranks_mapping first_shared steps_until has_port is_mapped is_rate runs_for indices_mapped values_in_step
 shared_index_receiver = record {
   name = refl;
   np = (omega arith, omega arith);
+  start = omega arith;
+  stop = omega arith;
   tick = (omega arith, omega arith);
   few_steps = omega arith;
   ports = record { few = omega arith; each = (record { name = refl; ranks = refl; indices = refl; once = refl; message = tt; latency = omega arith; delay = omega arith; buffered = tt }, tt); differ = refl };
@@ -79,15 +87,17 @@ shared_index_is = record {
   stop = omega arith;
   apps = record { few = omega arith; each = (shared_index_sender, (shared_index_receiver, tt)); differ = refl };
   few_links = omega arith;
-  widths = refl;
+  link_numbers = refl;
   links = record { with_ends = refl; directed = refl; of_one_kind = refl; within_width = refl; with_values = refl; pairs_once = refl; continuous_once = refl };
 }
 
-ramp_held_sender : IsApp (ms 4) (app_at ramp_held 0)
+ramp_held_sender : IsApp (app_at ramp_held 0)
 unfolding ranks_mapping first_shared steps_until has_port is_mapped is_rate runs_for indices_mapped values_in_step
 ramp_held_sender = record {
   name = refl;
   np = (omega arith, omega arith);
+  start = omega arith;
+  stop = omega arith;
   tick = (omega arith, omega arith);
   few_steps = omega arith;
   ports = record { few = omega arith; each = (record { name = refl; ranks = refl; indices = refl; once = refl; message = tt; latency = omega arith; delay = omega arith; buffered = tt }, tt); differ = refl };
@@ -95,11 +105,13 @@ ramp_held_sender = record {
   few_values = omega arith;
 }
 
-ramp_held_receiver : IsApp (ms 4) (app_at ramp_held 1)
+ramp_held_receiver : IsApp (app_at ramp_held 1)
 unfolding ranks_mapping first_shared steps_until has_port is_mapped is_rate runs_for indices_mapped values_in_step
 ramp_held_receiver = record {
   name = refl;
   np = (omega arith, omega arith);
+  start = omega arith;
+  stop = omega arith;
   tick = (omega arith, omega arith);
   few_steps = omega arith;
   ports = record { few = omega arith; each = (record { name = refl; ranks = refl; indices = refl; once = refl; message = tt; latency = omega arith; delay = omega arith; buffered = tt }, tt); differ = refl };
@@ -113,7 +125,7 @@ ramp_held_is = record {
   stop = omega arith;
   apps = record { few = omega arith; each = (ramp_held_sender, (ramp_held_receiver, tt)); differ = refl };
   few_links = omega arith;
-  widths = refl;
+  link_numbers = refl;
   links = record { with_ends = refl; directed = refl; of_one_kind = refl; within_width = refl; with_values = refl; pairs_once = refl; continuous_once = refl };
 }
 
@@ -128,11 +140,13 @@ message_in : HasMessageMap Messages Input (linear 0 1)
 message_in zero lt = refl
 message_in (suc r) lt = absurd (omega arith)
 
-clk_is : IsApp (ms 4) clk
+clk_is : IsApp clk
 unfolding ranks_mapping first_shared steps_until has_port is_mapped is_rate runs_for indices_mapped values_in_step
 clk_is = record {
   name = refl;
   np = (omega arith, omega arith);
+  start = omega arith;
+  stop = omega arith;
   tick = (omega arith, omega arith);
   few_steps = omega arith;
   ports = record { few = omega arith; each = (record { name = refl; ranks = refl; indices = refl; once = refl; message = tt; latency = omega arith; delay = omega arith; buffered = tt }, (record { name = refl; ranks = refl; indices = refl; once = refl; message = message_out; latency = omega arith; delay = omega arith; buffered = tt }, tt)); differ = refl };
@@ -140,11 +154,13 @@ clk_is = record {
   few_values = omega arith;
 }
 
-left_is : IsApp (ms 4) left
+left_is : IsApp left
 unfolding ranks_mapping first_shared steps_until has_port is_mapped is_rate runs_for indices_mapped values_in_step
 left_is = record {
   name = refl;
   np = (omega arith, omega arith);
+  start = omega arith;
+  stop = omega arith;
   tick = (omega arith, omega arith);
   few_steps = omega arith;
   ports = record { few = omega arith; each = (record { name = refl; ranks = refl; indices = refl; once = refl; message = tt; latency = omega arith; delay = omega arith; buffered = tt }, (record { name = refl; ranks = refl; indices = refl; once = refl; message = tt; latency = omega arith; delay = omega arith; buffered = tt }, tt)); differ = refl };
@@ -152,11 +168,13 @@ left_is = record {
   few_values = omega arith;
 }
 
-right_is : IsApp (ms 4) right
+right_is : IsApp right
 unfolding ranks_mapping first_shared steps_until has_port is_mapped is_rate runs_for indices_mapped values_in_step
 right_is = record {
   name = refl;
   np = (omega arith, omega arith);
+  start = omega arith;
+  stop = omega arith;
   tick = (omega arith, omega arith);
   few_steps = omega arith;
   ports = record { few = omega arith; each = (record { name = refl; ranks = refl; indices = refl; once = refl; message = tt; latency = omega arith; delay = omega arith; buffered = tt }, (record { name = refl; ranks = refl; indices = refl; once = refl; message = tt; latency = omega arith; delay = omega arith; buffered = tt }, tt)); differ = refl };
@@ -164,11 +182,13 @@ right_is = record {
   few_values = omega arith;
 }
 
-wave_is : IsApp (ms 4) wave
+wave_is : IsApp wave
 unfolding ranks_mapping first_shared steps_until has_port is_mapped is_rate runs_for indices_mapped values_in_step
 wave_is = record {
   name = refl;
   np = (omega arith, omega arith);
+  start = omega arith;
+  stop = omega arith;
   tick = (omega arith, omega arith);
   few_steps = omega arith;
   ports = record { few = omega arith; each = (record { name = refl; ranks = refl; indices = refl; once = refl; message = tt; latency = omega arith; delay = omega arith; buffered = tt }, (record { name = refl; ranks = refl; indices = refl; once = refl; message = message_in; latency = omega arith; delay = omega arith; buffered = tt }, tt)); differ = refl };
@@ -176,11 +196,13 @@ wave_is = record {
   few_values = omega arith;
 }
 
-watch_is : IsApp (ms 4) watch
+watch_is : IsApp watch
 unfolding ranks_mapping first_shared steps_until has_port is_mapped is_rate runs_for indices_mapped values_in_step
 watch_is = record {
   name = refl;
   np = (omega arith, omega arith);
+  start = omega arith;
+  stop = omega arith;
   tick = (omega arith, omega arith);
   few_steps = omega arith;
   ports = record { few = omega arith; each = (record { name = refl; ranks = refl; indices = refl; once = refl; message = tt; latency = omega arith; delay = omega arith; buffered = tt }, (record { name = refl; ranks = refl; indices = refl; once = refl; message = tt; latency = omega arith; delay = omega arith; buffered = tt }, (record { name = refl; ranks = refl; indices = refl; once = refl; message = tt; latency = omega arith; delay = omega arith; buffered = tt }, tt))); differ = refl };
@@ -194,6 +216,6 @@ realistic_is = record {
   stop = omega arith;
   apps = record { few = omega arith; each = (clk_is, (left_is, (right_is, (wave_is, (watch_is, tt))))); differ = refl };
   few_links = omega arith;
-  widths = refl;
+  link_numbers = refl;
   links = record { with_ends = refl; directed = refl; of_one_kind = refl; within_width = refl; with_values = refl; pairs_once = refl; continuous_once = refl };
 }

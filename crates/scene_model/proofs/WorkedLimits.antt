@@ -4,7 +4,7 @@ use Rattle.std.specs.Prelude.{◌≤ℤ◌, neg_ℤ, IfSome}
 use Rattle.std.proofs.lemmas.Int.{ints}
 use Rattle.std.proofs.lemmas.List.Elements.{All-from_recursion}
 use Rattle.music_base.specs.Numbers.{gcd, floor_to}
-use Rattle.scene_model.specs.Clocks.{allowance, latency, delay, tick}
+use Rattle.scene_model.specs.Clocks.{allowance, latency, delay, start, tick}
 use Rattle.scene_model.specs.Scenes.{sender, receiver}
 use Rattle.scene_model.specs.Cover.{AllCovered, HasUncovered, Passes}
 use Rattle.scene_model.specs.Waits.{waits, stated, stated_limits, block_wait, room_wait, IsAccepted, IsLimit, AreLimits, Fits, greatest_limit, greatest_potential}
@@ -16,7 +16,7 @@ use Rattle.scene_model.proofs.WorkedCycles.{covered_by, uncovered_pair}
 -- ---- a receiver whose tick is ten of the sender's
 
 slow_receiver-limit : (c : ℕ) → c < 1 → IsLimit slow_receiver (1 ∷ []) c (stated slow_receiver c)
-unfolding allowance latency delay tick sender receiver gcd floor_to block_wait room_wait stated
+unfolding allowance latency delay start tick sender receiver gcd floor_to block_wait room_wait stated
 slow_receiver-limit zero lt = record {
   some = omega arith;
   covered = covered_by 2 (pos 0 ∷ pos 18_000_001 ∷ []) (block_wait slow_receiver 0 ∷ room_wait slow_receiver 0 1 ∷ []) (omega (arith, ints), (omega (arith, ints), tt));
@@ -30,15 +30,15 @@ slow_receiver-limits = record { counted = refl; each = slow_receiver-limit }
 -- ---- two connections, of which the second is late
 
 two_ways-first : AllCovered (waits (two_ways None) (Some 1 ∷ None ∷ []))
-unfolding allowance latency delay tick sender receiver gcd floor_to block_wait room_wait
+unfolding allowance latency delay start tick sender receiver gcd floor_to block_wait room_wait
 two_ways-first = covered_by 2 (pos 0 ∷ pos 1 ∷ []) (waits (two_ways None) (Some 1 ∷ None ∷ [])) (omega (arith, ints), (omega (arith, ints), (omega (arith, ints), tt)))
 
 two_ways-second : AllCovered (waits (two_ways None) (Some 1 ∷ Some 4 ∷ []))
-unfolding allowance latency delay tick sender receiver gcd floor_to block_wait room_wait
+unfolding allowance latency delay start tick sender receiver gcd floor_to block_wait room_wait
 two_ways-second = covered_by 2 (pos 0 ∷ pos 1 ∷ []) (waits (two_ways None) (Some 1 ∷ Some 4 ∷ [])) (omega (arith, ints), (omega (arith, ints), (omega (arith, ints), (omega (arith, ints), tt))))
 
 two_ways-fewer : (m : ℕ) → 1 ≤ m → m < 4 → HasUncovered (waits (two_ways None) (Some 1 ∷ Some m ∷ []))
-unfolding allowance latency delay tick sender receiver gcd floor_to block_wait room_wait
+unfolding allowance latency delay start tick sender receiver gcd floor_to block_wait room_wait
 two_ways-fewer m low high = (
   room_wait (two_ways None) 1 m ∷ block_wait (two_ways None) 0 ∷ [],
   (uncovered_pair (waits (two_ways None) (Some 1 ∷ Some m ∷ [])) (room_wait (two_ways None) 1 m) (block_wait (two_ways None) 0) refl refl (omega arith) (3, omega arith, refl) (0, omega arith, refl) (omega (arith, ints))).uncovered,
@@ -54,11 +54,11 @@ pub two_ways-limits : AreLimits (two_ways None) (1 ∷ 4 ∷ [])
 two_ways-limits = record { counted = refl; each = two_ways-limit }
 
 pub two_ways-accepted : IsAccepted (two_ways None)
-unfolding allowance latency delay tick sender receiver gcd floor_to block_wait room_wait stated
+unfolding allowance latency delay start tick sender receiver gcd floor_to block_wait room_wait stated
 two_ways-accepted = covered_by 2 (pos 0 ∷ pos 1 ∷ []) (waits (two_ways None) (stated_limits (two_ways None))) (omega (arith, ints), (omega (arith, ints), tt))
 
 pub two_ways-fits : Fits (two_ways None) (1 ∷ 4 ∷ []) (pos 0 ∷ pos 1 ∷ [])
-unfolding allowance latency delay tick sender receiver gcd floor_to block_wait room_wait
+unfolding allowance latency delay start tick sender receiver gcd floor_to block_wait room_wait
 two_ways-fits = record {
   limits_counted = refl;
   potentials_counted = refl;
@@ -96,7 +96,7 @@ two_ways-well_formed = record { ticks = ticks; senders = senders; receivers = re
 -- ---- where the late one states how much is buffered
 
 four_ways-first : AllCovered (waits (two_ways (Some 4)) (Some 1 ∷ Some 4 ∷ []))
-unfolding allowance latency delay tick sender receiver gcd floor_to block_wait room_wait
+unfolding allowance latency delay start tick sender receiver gcd floor_to block_wait room_wait
 four_ways-first = covered_by 2 (pos 0 ∷ pos 1 ∷ []) (waits (two_ways (Some 4)) (Some 1 ∷ Some 4 ∷ [])) (omega (arith, ints), (omega (arith, ints), (omega (arith, ints), (omega (arith, ints), tt))))
 
 four_ways-limit : (c : ℕ) → c < 2 → IsLimit (two_ways (Some 4)) (1 ∷ 4 ∷ []) c (stated (two_ways (Some 4)) c)
@@ -110,12 +110,12 @@ four_ways-limits = record { counted = refl; each = four_ways-limit }
 
 -- ---- two applications that send to each other
 
-pair-first : AllCovered (waits latency_of_a_tick (Some 1 ∷ None ∷ []))
-unfolding allowance latency delay tick sender receiver gcd floor_to block_wait room_wait
+pub pair-first : AllCovered (waits latency_of_a_tick (Some 1 ∷ None ∷ []))
+unfolding allowance latency delay start tick sender receiver gcd floor_to block_wait room_wait
 pair-first = covered_by 2 (pos 0 ∷ pos 1 ∷ []) (waits latency_of_a_tick (Some 1 ∷ None ∷ [])) (omega (arith, ints), (omega (arith, ints), (omega (arith, ints), tt)))
 
-pair-second : AllCovered (waits latency_of_a_tick (Some 1 ∷ Some 1 ∷ []))
-unfolding allowance latency delay tick sender receiver gcd floor_to block_wait room_wait
+pub pair-second : AllCovered (waits latency_of_a_tick (Some 1 ∷ Some 1 ∷ []))
+unfolding allowance latency delay start tick sender receiver gcd floor_to block_wait room_wait
 pair-second = covered_by 2 (pos 0 ∷ pos 1 ∷ []) (waits latency_of_a_tick (Some 1 ∷ Some 1 ∷ [])) (omega (arith, ints), (omega (arith, ints), (omega (arith, ints), (omega (arith, ints), tt))))
 
 pair-limit : (c : ℕ) → c < 2 → IsLimit latency_of_a_tick (1 ∷ 1 ∷ []) c (stated latency_of_a_tick c)

@@ -24,3 +24,6 @@ pub mod WellFormed
 pub mod Orders
 pub mod WorkedWaits
 pub mod WorkedOrders
+pub mod Together
+pub mod Unstated
+pub mod WorkedTimes

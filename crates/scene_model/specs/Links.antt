@@ -1,10 +1,11 @@
 -- Lawful links between the ports of applications.
-use Rattle.std.specs.Prelude.{◌≡◌, ℕ, Bool, true, false, ◌&&◌, ◌==◌, nat_lt, List, length, slice_index_or, Option, Some, None}
+use Rattle.std.specs.Prelude.{◌≡◌, ℕ, Bool, true, false, ◌&&◌, ◌==◌, nat_lt, List, length, slice_index_or, Option, Some, None, nat_le}
 use Rattle.std.specs.Int.{is_in_range}
 use Rattle.std.specs.List.{list_all}
 use Rattle.music_base.specs.Numbers.{all_differ}
+use Rattle.music_base.specs.Times.{greatest_time}
 use Rattle.index_maps.specs.Maps.{indices, maps_index}
-use Rattle.scene_model.specs.Limits.{greatest_width}
+use Rattle.scene_model.specs.Limits.{greatest_width, most_buffered}
 use Rattle.scene_model.specs.Ports.{same_kind}
 use Rattle.scene_model.specs.Scenes.{no_app, no_port}
 use Rattle.scene_model.specs.declared.port.Direction.{Direction}
@@ -87,6 +88,20 @@ has_values apps link = values_fit (input_of apps link).kind (output_of apps link
 abbrev pub is_width : Option ℕ → Bool
 is_width None = true
 is_width (Some width) = is_in_range 1 greatest_width width
+
+-- a latency that is stated is at most the greatest time
+abbrev pub is_latency : Option ℕ → Bool
+is_latency None = true
+is_latency (Some latency) = nat_le latency greatest_time
+
+-- a number of blocks that is stated is from 1 up to the greatest one
+abbrev pub is_buffered : Option ℕ → Bool
+is_buffered None = true
+is_buffered (Some blocks) = is_in_range 1 most_buffered blocks
+
+-- what the link itself states lies within its limits
+abbrev pub has_lawful_numbers : Link → Bool
+has_lawful_numbers link = is_width link.width && is_latency link.latency && is_buffered link.buffered
 
 -- ---- two links
 

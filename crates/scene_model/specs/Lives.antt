@@ -5,7 +5,7 @@ use Rattle.music_base.specs.declared.item.Item.{Item}
 use Rattle.music_base.specs.declared.item.Item.TheVariants.{Value}
 use Rattle.index_maps.specs.Maps.{indices}
 use Rattle.scene_model.specs.Scenes.{app_at, port_at}
-use Rattle.scene_model.specs.Clocks.{tick, steps}
+use Rattle.scene_model.specs.Clocks.{start, tick, steps}
 use Rattle.scene_model.specs.Tables.{Table, StepOutput, arrivals, value}
 use Rattle.scene_model.specs.Turns.{Moment, turn, opening, next_state}
 use Rattle.scene_model.specs.declared.scene.Scene.{Scene}
@@ -28,7 +28,7 @@ inputs scene table b j = map (λ p. input_by (port_at scene b p).direction (port
 
 -- step k of application a, where its inputs read the table
 abbrev pub moment : Scene → Table → ℕ → ℕ → Moment
-moment scene table a k = record { ports = (app_at scene a).ports; tick = tick scene a; step = k; inputs = inputs scene table a k }
+moment scene table a k = record { ports = (app_at scene a).ports; start = start scene a; tick = tick scene a; step = k; inputs = inputs scene table a k }
 
 -- ---- lives
 

@@ -15,9 +15,9 @@ use Rattle.scene_model.specs.declared.port.Direction.TheVariants.{Output, Input}
 use Rattle.scene_model.specs.declared.rule.Rule.{Rule}
 use Rattle.scene_model.specs.declared.rule.Rule.TheVariants.{EmitAt, EmitEvery, Pass, SetValue, Ramp, CopyValues, When, Say, Reply}
 
--- how long an application runs: its number of steps times its tick
+-- how long an application runs whose steps begin within a span: their number times its tick
 unfoldable pub runs_for : ℕ → ℕ → ℕ
-runs_for stop tick = steps_until stop tick * tick
+runs_for span tick = steps_until span tick * tick
 
 -- ---- ports
 

@@ -27,10 +27,10 @@ no_port = record {
 }
 
 abbrev pub no_app : AppDecl
-no_app = record { name = []; np = 0; tick = 1; ports = []; rules = [] }
+no_app = record { name = []; np = 0; start = 0; stop = 0; tick = 1; ports = []; rules = [] }
 
 abbrev pub no_link : Link
-no_link = record { from_app = 0; from_port = 0; to_app = 0; to_port = 0; width = None }
+no_link = record { from_app = 0; from_port = 0; to_app = 0; to_port = 0; width = None; latency = None; buffered = None }
 
 -- application a, port p of application a, and connection c
 abbrev pub app_at : Scene → ℕ → AppDecl

@@ -1,5 +1,6 @@
 -- A table of step outputs, and what a step of an input reads of it.
-use Rattle.std.specs.Prelude.{ℕ, ◌+◌, ◌-◌, ◌/◌, ◌%◌, ◌≤◌, ◌<◌, ◌≡◌, min, Bool, true, false, ◌==◌, ◌&&◌, nat_lt, if◌then◌else◌, List, [], ◌∷◌, length, slice_index_or, map, ℤ, pos, ◌+ℤ◌, ◌-ℤ◌, ◌*ℤ◌, ⊤}
+use Rattle.std.specs.Prelude.{ℕ, ◌+◌, ◌-◌, ◌/◌, ◌%◌, ◌≤◌, ◌<◌, ◌≡◌, min, Bool, true, false, ◌==◌, ◌&&◌, nat_lt, if◌then◌else◌, List, [], ◌∷◌, length, slice_index_or, map, ℤ, pos, ◌+ℤ◌, ◌-ℤ◌, ◌*ℤ◌, ⊤, Option, Some, None, FitsSigned}
+use Rattle.std.specs.Int.{w64}
 use Rattle.std.specs.List.{filter, flat_map, AllByRecursion}
 use Rattle.std.specs.declared.cmp.Ordering.{Ordering}
 use Rattle.std.specs.Ordering.{ordering_then, nat_cmp}
@@ -8,7 +9,7 @@ use Rattle.music_base.specs.declared.item.Item.{Item}
 use Rattle.music_base.specs.declared.item.Item.TheVariants.{Event, Value, Message}
 use Rattle.index_maps.specs.Maps.{maps_index, indices}
 use Rattle.scene_model.specs.Scenes.{app_at, port_at, link_at, sender, receiver, input_of, links_to}
-use Rattle.scene_model.specs.Clocks.{tick, steps, clock, delay, due}
+use Rattle.scene_model.specs.Clocks.{start, tick, steps, clock, delay, due}
 use Rattle.scene_model.specs.declared.scene.Scene.{Scene}
 use Rattle.scene_model.specs.declared.port.PortDecl.{PortDecl}
 use Rattle.scene_model.specs.declared.port.Direction.{Direction}
@@ -77,13 +78,23 @@ pub record IsProper (scene : Scene) (table : Table) : Type 0 where
   pub blocks : (a k p : ℕ) → a < length scene.apps → k < length (steps_of table a) → p < length (app_at scene a).ports
       → IsProperBlock (port_at scene a p).direction (port_at scene a p).kind (port_at scene a p) (clock scene a k) (clock scene a (k + 1)) (block table a k p)
 
+-- 64 bits hold the value of an item, as a signed number of millionths
+abbrev pub Fits64Bits : Item → Type 0
+Fits64Bits (Value global value) = FitsSigned w64 value
+Fits64Bits _ = ⊤
+
 -- ---- arrivals
+
+-- what is due in a step is due in step j
+abbrev pub is_step : ℕ → Option ℕ → Bool
+is_step j None = false
+is_step j (Some step) = step == j
 
 -- an item arrives in step j of connection c where it is due then, and an event only where some rank of the input maps
 -- its index. A message has no index, and a value never arrives: it is read
 abbrev pub arrives : Scene → ℕ → ℕ → Item → Bool
-arrives scene c j (Event e) = due scene c e.time == j && maps_index (input_of scene c).map e.global
-arrives scene c j (Message m) = due scene c m.time == j
+arrives scene c j (Event e) = is_step j (due scene c e.time) && maps_index (input_of scene c).map e.global
+arrives scene c j (Message m) = is_step j (due scene c m.time)
 arrives scene c j (Value global value) = false
 
 -- an item, with the places of the application and the port that sent it
@@ -143,12 +154,14 @@ reading true samples tick time =
     let k : ℕ = time / tick in
     samples k +ℤ floor_div ((samples (k + 1) -ℤ samples k) *ℤ pos (time % tick)) tick
 
--- what step j reads of an index on connection c, a delay behind its clock: 0 where that lies before all samples
+-- what step j reads of an index on connection c, a delay behind its clock: 0 where that lies before all samples. The first
+-- sample is one of the sender's start
 abbrev pub value_on : Scene → Table → ℕ → ℕ → ℕ → ℤ
 value_on scene table j g c =
     let now = clock scene (receiver scene c) j in
-    if nat_lt now (delay scene c) then pos 0
-    else reading (input_of scene c).interpolate (sample scene table c g) (tick scene (sender scene c)) (now - delay scene c)
+    let first = start scene (sender scene c) + delay scene c in
+    if nat_lt now first then pos 0
+    else reading (input_of scene c).interpolate (sample scene table c g) (tick scene (sender scene c)) (now - first)
 
 -- at most one connection leads to a continuous input. Where none does, the value is 0
 abbrev pub value_over : Scene → Table → ℕ → ℕ → List ℕ → ℤ

@@ -49,19 +49,20 @@ saturated z = saturate_signed w64 z
 
 -- ---- the step
 
--- a step of an application: its ports, its tick, the number of the step, and what its inputs read in it
+-- a step of an application: its ports, its start, its tick, the number of the step, and what its inputs read in it
 pub record Moment : Type 0 where
   pub ports : List PortDecl
+  pub start : ℕ
   pub tick : ℕ
   pub step : ℕ
   pub inputs : StepOutput
 
 -- the step covers the times from its clock up to its end, which is a tick later
 abbrev pub clock_of : Moment → ℕ
-clock_of m = m.step * m.tick
+clock_of m = m.start + m.step * m.tick
 
 abbrev pub end_of : Moment → ℕ
-end_of m = m.step * m.tick + m.tick
+end_of m = clock_of m + m.tick
 
 abbrev pub is_within : Moment → ℕ → Bool
 is_within m time = nat_le (clock_of m) time && nat_lt time (end_of m)

@@ -21,6 +21,6 @@ values_by _ map = 0
 unfoldable pub values_in_step : List PortDecl → ℕ
 values_in_step ports = sum_by (λ (port : PortDecl). values_by port.kind port.map) ports
 
--- how many values all steps have, up to the stop
+-- how many values all steps have that begin within a span
 abbrev pub values_in_run : ℕ → ℕ → List PortDecl → ℕ
-values_in_run stop tick ports = steps_until stop tick * values_in_step ports
+values_in_run span tick ports = steps_until span tick * values_in_step ports

@@ -2,8 +2,9 @@
 use Rattle.std.specs.Prelude.{◌≡◌, ◌≤◌, ◌<◌, ℕ, suc, ◌+◌, ◌*◌, ◌/◌, ◌^◌, min, max, ℤ, pos, ◌-ℤ◌, ◌≤ℤ◌, neg_ℤ, Option, None, Some, IfSome, List, [], ◌∷◌, ◌++◌, map, length, slice_index_or, slice_index, take, drop, All}
 use Rattle.std.specs.Int.{IsInRange}
 use Rattle.std.specs.List.{flat_map}
+use Rattle.std.specs.Option.{option_or}
 use Rattle.music_base.specs.Numbers.{below, gcd, floor_to}
-use Rattle.scene_model.specs.Scenes.{sender, receiver, input_of, output_of}
+use Rattle.scene_model.specs.Scenes.{link_at, sender, receiver, input_of, output_of}
 use Rattle.scene_model.specs.Clocks.{tick, allowance}
 use Rattle.scene_model.specs.Cover.{AllCovered, HasUncovered, Passes}
 use Rattle.scene_model.specs.declared.scene.Scene.{Scene}
@@ -16,7 +17,7 @@ use Rattle.scene_model.specs.declared.wait.WaitKind.TheVariants.{ForBlock, ForRo
 abbrev pub common_divisor : Scene → ℕ → ℕ
 common_divisor scene c = gcd (tick scene (sender scene c)) (tick scene (receiver scene c))
 
--- the allowance, rounded down to such multiples, since both clocks are
+-- the allowance, rounded down to such multiples, since both clocks are, each counted from its own start
 abbrev pub rounded : Scene → ℕ → ℤ
 rounded scene c = floor_to (common_divisor scene c) (allowance scene c)
 
@@ -81,9 +82,9 @@ abbrev pub at_most : ℕ → Option ℕ → Option ℕ
 at_most most None = None
 at_most most (Some m) = Some (min m most)
 
--- the stated limit of a connection
+-- the stated limit of a connection: its own, or else what its ends state together
 unfoldable pub stated : Scene → ℕ → Option ℕ
-stated scene c = at_most greatest_limit (stated_by scene c (output_of scene c).buffered (input_of scene c).buffered)
+stated scene c = at_most greatest_limit (option_or (link_at scene c).buffered (stated_by scene c (output_of scene c).buffered (input_of scene c).buffered))
 
 abbrev pub stated_limits : Scene → Limits
 stated_limits scene = map (stated scene) (below (length scene.links))

@@ -4,7 +4,7 @@ use Rattle.index_maps.specs.declared.map.IndexMap.TheVariants.{Linear}
 use Rattle.index_maps.specs.declared.map.PortMap.TheVariants.{Each}
 use Rattle.music_base.specs.Times.{greatest_time}
 use Rattle.scene_model.specs.Limits.{most_buffered}
-use Rattle.scene_model.specs.WorkedScenes.{ms, connected, emit_each_ms, events_in, gen, input, linear, link, output, sink}
+use Rattle.scene_model.specs.WorkedScenes.{all_until, app, ms, connected, emit_each_ms, events_in, gen, input, linear, link, output, sink}
 use Rattle.scene_model.specs.declared.port.PortDecl.{PortDecl}
 use Rattle.scene_model.specs.declared.port.PortKind.TheVariants.{Events, Values, Messages}
 use Rattle.scene_model.specs.declared.rule.Rule.{Rule}
@@ -37,27 +37,19 @@ much_buffered = to_port (record (events_in 0) { buffered = Some (most_buffered +
 
 -- two applications of one name
 abbrev pub one_name : Scene
-one_name = record { stop = ms 3; apps = gen (ms 1) emit_each_ms ∷ gen (ms 1) emit_each_ms ∷ []; links = [] }
+one_name = all_until (ms 3) (gen (ms 1) emit_each_ms ∷ gen (ms 1) emit_each_ms ∷ []) []
 
 -- ---- maps
 
 -- an output that maps indices 2 and 3 at both of its ranks
 abbrev pub overlapping : Scene
-overlapping = record {
-  stop = ms 3;
-  apps = record {
-    name = codes "gen";
-    np = 2;
-    tick = ms 1;
-    ports = output (codes "spikes") Events (Each (Linear (record { base = 0; size = 4 }) ∷ Linear (record { base = 2; size = 4 }) ∷ [])) ∷ [];
-    rules = [];
-  } ∷ [];
-  links = [];
-}
+overlapping =
+    all_until (ms 3)
+    (record (app (codes "gen") (ms 1) (output (codes "spikes") Events (Each (Linear (record { base = 0; size = 4 }) ∷ Linear (record { base = 2; size = 4 }) ∷ [])) ∷ []) []) { np = 2 } ∷ []) []
 
 -- a message input that maps index 1
 abbrev pub other_message_map : Scene
-other_message_map = record { stop = ms 3; apps = sink (ms 1) (input (codes "in") Messages (linear 1 1)) ∷ []; links = [] }
+other_message_map = all_until (ms 3) (sink (ms 1) (input (codes "in") Messages (linear 1 1)) ∷ []) []
 
 -- ---- rules
 

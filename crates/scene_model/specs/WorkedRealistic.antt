@@ -17,6 +17,8 @@ abbrev pub clk : AppDecl
 clk = record {
   name = codes "clk";
   np = 1;
+  start = 0;
+  stop = ms 4;
   tick = ms 1;
   ports = output (codes "tick") Events (linear 0 4) ∷ output (codes "note") Messages (linear 0 1) ∷ [];
   rules = EmitEvery (codes "tick") 0 (ms 1) 0 ∷ Say (codes "note") (codes "go") (ms 2) 500_000 ∷ [];
@@ -27,6 +29,8 @@ abbrev pub left : AppDecl
 left = record {
   name = codes "left";
   np = 2;
+  start = 0;
+  stop = ms 4;
   tick = ms 1;
   ports = record (input (codes "in") Events halves) { latency = ms 1 } ∷ output (codes "out") Events halves ∷ [];
   rules = Pass (codes "in") (codes "out") (pos 1) 200_000 ∷ [];
@@ -36,6 +40,8 @@ abbrev pub right : AppDecl
 right = record {
   name = codes "right";
   np = 1;
+  start = 0;
+  stop = ms 4;
   tick = ms 2;
   ports = record (input (codes "in") Events (linear 0 4)) { latency = ms 2 } ∷ output (codes "out") Events (linear 0 4) ∷ [];
   rules = Pass (codes "in") (codes "out") (pos 1) 0 ∷ [];
@@ -46,6 +52,8 @@ abbrev pub wave : AppDecl
 wave = record {
   name = codes "wave";
   np = 1;
+  start = 0;
+  stop = ms 4;
   tick = ms 2;
   ports = output (codes "level") Values (linear 0 2) ∷ input (codes "cmd") Messages (linear 0 1) ∷ [];
   rules = Ramp (codes "level") 0 (pos 0) (pos 1_000_000) ∷ SetValue (codes "level") 1 (pos 500_000) ∷ [];
@@ -56,6 +64,8 @@ abbrev pub watch : AppDecl
 watch = record {
   name = codes "watch";
   np = 1;
+  start = 0;
+  stop = ms 4;
   tick = ms 1;
   ports =
       record (input (codes "level") Values (linear 0 2)) { delay = ms 2 }

@@ -1,5 +1,5 @@
 -- Small scenes, of which the laws say what their logs are.
-use Rattle.std.specs.Prelude.{ℕ, ◌*◌, true, false, List, [], ◌∷◌, ℤ, pos, negsuc, None, codes}
+use Rattle.std.specs.Prelude.{ℕ, ◌*◌, true, false, List, [], ◌∷◌, map, ℤ, pos, negsuc, None, codes}
 use Rattle.std.specs.List.{flat_map}
 use Rattle.index_maps.specs.declared.map.IndexMap.TheVariants.{Linear}
 use Rattle.index_maps.specs.declared.map.PortMap.{PortMap}
@@ -51,7 +51,15 @@ input name kind map = record {
 }
 
 abbrev pub link : ℕ → ℕ → ℕ → ℕ → Link
-link a p b q = record { from_app = a; from_port = p; to_app = b; to_port = q; width = None }
+link a p b q = record { from_app = a; from_port = p; to_app = b; to_port = q; width = None; latency = None; buffered = None }
+
+-- an application of one process that starts at 0. Its stop is still to be stated
+abbrev pub app : List ℕ → ℕ → List PortDecl → List Rule → AppDecl
+app name tick ports rules = record { name = name; np = 1; start = 0; stop = 0; tick = tick; ports = ports; rules = rules }
+
+-- a scene whose applications all stop at its stop
+abbrev pub all_until : ℕ → List AppDecl → List Link → Scene
+all_until stop apps links = record { stop = stop; apps = map (λ (a : AppDecl). record a { stop = stop }) apps; links = links }
 
 -- each line with its end
 abbrev pub lines : List (List ℕ) → List ℕ
@@ -64,14 +72,14 @@ log rows = lines (codes "clock,app,port,kind,rank,local,global,time,value" ∷ r
 -- ---- events from gen to sink
 
 abbrev pub gen : ℕ → Rule → AppDecl
-gen tick rule = record { name = codes "gen"; np = 1; tick = tick; ports = output (codes "spikes") Events (linear 0 10) ∷ []; rules = rule ∷ [] }
+gen tick rule = app (codes "gen") tick (output (codes "spikes") Events (linear 0 10) ∷ []) (rule ∷ [])
 
 abbrev pub sink : ℕ → PortDecl → AppDecl
-sink tick port = record { name = codes "sink"; np = 1; tick = tick; ports = port ∷ []; rules = [] }
+sink tick port = app (codes "sink") tick (port ∷ []) []
 
 -- the first port of one application leads to the first of the other
 abbrev pub connected : ℕ → AppDecl → AppDecl → Scene
-connected stop from to = record { stop = stop; apps = from ∷ to ∷ []; links = link 0 0 1 0 ∷ [] }
+connected stop from to = all_until stop (from ∷ to ∷ []) (link 0 0 1 0 ∷ [])
 
 abbrev pub emit_each_ms : Rule
 emit_each_ms = EmitEvery (codes "spikes") 3 (ms 1) 500_000
@@ -116,7 +124,7 @@ past_the_stop = connected (ms 2) (gen (ms 1) emit_each_ms) (sink (ms 1) (events_
 -- a ramp that is sampled each 2 ms and read each millisecond
 abbrev pub ramp_from : ℕ → ℤ → PortDecl → Scene
 ramp_from stop by port = connected stop
-    (record { name = codes "gen"; np = 1; tick = ms 2; ports = output (codes "c") Values (linear 0 1) ∷ []; rules = Ramp (codes "c") 0 (pos 0) by ∷ [] })
+    (app (codes "gen") (ms 2) (output (codes "c") Values (linear 0 1) ∷ []) (Ramp (codes "c") 0 (pos 0) by ∷ []))
     (sink (ms 1) port)
 
 abbrev pub values_in : PortDecl

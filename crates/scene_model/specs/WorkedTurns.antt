@@ -19,6 +19,7 @@ step_four = record {
       ∷ output (codes "c") Values (linear 0 2)
       ∷ output (codes "said") Messages (linear 0 1)
       ∷ [];
+  start = 0;
   tick = 10;
   step = 4;
   inputs = (event 1 38 ∷ event 3 39 ∷ []) ∷ (Value 0 (pos 7) ∷ []) ∷ (message (codes "go") 35 ∷ []) ∷ [] ∷ [] ∷ [] ∷ [];

@@ -1,7 +1,7 @@
 -- Small scenes whose waits, cycles and limits can be followed by hand. Times are in ns.
 use Rattle.std.specs.Prelude.{ℕ, List, [], ◌∷◌, Option, Some, codes}
 use Rattle.scene_model.specs.Waits.{block_wait, room_wait}
-use Rattle.scene_model.specs.WorkedScenes.{connected, input, linear, link, ms, output}
+use Rattle.scene_model.specs.WorkedScenes.{all_until, app, connected, input, linear, link, ms, output}
 use Rattle.scene_model.specs.declared.port.PortDecl.{PortDecl}
 use Rattle.scene_model.specs.declared.port.PortKind.TheVariants.{Events}
 use Rattle.scene_model.specs.declared.scene.AppDecl.{AppDecl}
@@ -19,15 +19,12 @@ event_input name latency = record (input name Events (linear 0 1)) { latency = l
 
 -- an application that both sends and receives
 abbrev pub relay : List ℕ → ℕ → ℕ → AppDecl
-relay name tick latency = record { name = name; np = 1; tick = tick; ports = event_output (codes "out") ∷ event_input (codes "in") latency ∷ []; rules = [] }
+relay name tick latency = app name tick (event_output (codes "out") ∷ event_input (codes "in") latency ∷ []) []
 
 -- a and b, with these ticks and latencies, each send to the other
 abbrev pub pair : ℕ → ℕ → ℕ → ℕ → Scene
-pair tick_a tick_b latency_a latency_b = record {
-  stop = ms 10;
-  apps = relay (codes "a") tick_a latency_a ∷ relay (codes "b") tick_b latency_b ∷ [];
-  links = link 0 0 1 1 ∷ link 1 0 0 1 ∷ [];
-}
+pair tick_a tick_b latency_a latency_b =
+    all_until (ms 10) (relay (codes "a") tick_a latency_a ∷ relay (codes "b") tick_b latency_b ∷ []) (link 0 0 1 1 ∷ link 1 0 0 1 ∷ [])
 
 -- without a latency each waits for the other
 abbrev pub no_latency : Scene
@@ -54,7 +51,7 @@ for_each_other scene = block_wait scene 1 ∷ block_wait scene 0 ∷ []
 -- ---- one application that sends to itself
 
 abbrev pub alone : ℕ → Scene
-alone latency = record { stop = ms 10; apps = relay (codes "a") (ms 1) latency ∷ []; links = link 0 0 0 1 ∷ [] }
+alone latency = all_until (ms 10) (relay (codes "a") (ms 1) latency ∷ []) (link 0 0 0 1 ∷ [])
 
 abbrev pub to_itself : Scene
 to_itself = alone 999_999
@@ -70,14 +67,12 @@ for_itself scene = block_wait scene 0 ∷ []
 
 -- the second output may state how much it buffers, and the input that it leads to has a latency of five ticks
 abbrev pub two_ways : Option ℕ → Scene
-two_ways buffered = record {
-  stop = ms 10;
-  apps =
-      record { name = codes "gen"; np = 1; tick = ms 1; ports = event_output (codes "a") ∷ record (event_output (codes "b")) { buffered = buffered } ∷ []; rules = [] }
-      ∷ record { name = codes "sink"; np = 1; tick = ms 1; ports = event_input (codes "p") 0 ∷ event_input (codes "q") (ms 5) ∷ []; rules = [] }
-      ∷ [];
-  links = link 0 0 1 0 ∷ link 0 1 1 1 ∷ [];
-}
+two_ways buffered =
+    all_until (ms 10)
+    (app (codes "gen") (ms 1) (event_output (codes "a") ∷ record (event_output (codes "b")) { buffered = buffered } ∷ []) []
+    ∷ app (codes "sink") (ms 1) (event_input (codes "p") 0 ∷ event_input (codes "q") (ms 5) ∷ []) []
+    ∷ [])
+    (link 0 0 1 0 ∷ link 0 1 1 1 ∷ [])
 
 -- the second output keeps three blocks, which is one too few
 abbrev pub little_room : Scene
@@ -91,5 +86,5 @@ for_room_and_block scene = room_wait scene 1 3 ∷ block_wait scene 0 ∷ []
 
 abbrev pub buffering : ℕ → ℕ → Option ℕ → Option ℕ → Scene
 buffering send_tick receive_tick by_output by_input = connected (ms 10)
-    (record { name = codes "gen"; np = 1; tick = send_tick; ports = record (event_output (codes "a")) { buffered = by_output } ∷ []; rules = [] })
-    (record { name = codes "sink"; np = 1; tick = receive_tick; ports = record (event_input (codes "p") 0) { buffered = by_input } ∷ []; rules = [] })
+    (app (codes "gen") send_tick (record (event_output (codes "a")) { buffered = by_output } ∷ []) [])
+    (app (codes "sink") receive_tick (record (event_input (codes "p") 0) { buffered = by_input } ∷ []) [])

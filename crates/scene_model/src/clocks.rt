@@ -1,29 +1,44 @@
 //! When blocks are wanted.
-ghost use Rattle.std.specs.Prelude.{◌≡◌, ◌<◌, ◌≤◌, ◌^◌, length};
+ghost use Rattle.std.specs.Prelude.{◌≡◌, ◌<◌, ◌≤◌, ◌^◌, length, pos, ◌-ℤ◌};
 ghost use Rattle.std.specs.Int.RustNames.{unsigned_abs};
+ghost use Rattle.std.specs.Option.{unwrap_or};
 ghost use Rattle.scene_model.specs.Clocks.{allowance, allowance_by, wanted_blocks};
 ghost use Rattle.scene_model.specs.Faults.{IsFaultless};
 
-use crate::{PortDecl, PortKind, Scene};
-use music_base::{LinkId, Nanos, steps_of, wanted};
+use crate::{AppDecl, PortDecl, PortKind, Scene};
+use music_base::{LinkId, Nanos, wanted};
 
-/// The allowance of a connection to an input, between applications of these ticks.
-fn allowance_by(input: &PortDecl, send_tick: Nanos, receive_tick: Nanos) -> i128
-    ensures { result ≡ allowance_by input.now.kind input.now.interpolate input.now.latency input.now.delay send_tick receive_tick }
+/// The allowance of a connection to an input, between applications of these ticks that start together. A latency of the
+/// connection's own counts in place of the input's latency or delay.
+fn allowance_by(input: &PortDecl, own: Option<Nanos>, send_tick: Nanos, receive_tick: Nanos) -> i128
+    ensures value { result ≡ allowance_by input.now.kind input.now.interpolate (unwrap_or own input.now.latency) (unwrap_or own input.now.delay) send_tick receive_tick }
+    ensures near { unsigned_abs result ≤ 2 ^ 66 }
 {
     match input.kind {
-        PortKind::Events | PortKind::Messages => i128::from(input.latency.0),
+        PortKind::Events | PortKind::Messages => i128::from(own.unwrap_or(input.latency).0),
         PortKind::Values => {
             let before = if input.interpolate { send_tick.0 } else { 1 };
-            i128::from(input.delay.0) + i128::from(receive_tick.0) - i128::from(before)
+            i128::from(own.unwrap_or(input.delay).0) + i128::from(receive_tick.0)
+                - i128::from(before)
         }
     }
 }
 
-/// How much later than its sender's clock a block of the connection may come, in ns. It may be negative.
+/// How much later than the receiver the sender starts, in ns. It is negative where the sender starts first.
+fn later_start(sender: &AppDecl, receiver: &AppDecl) -> i128
+    ensures value { result ≡ pos sender.now.start -ℤ pos receiver.now.start }
+    ensures near { unsigned_abs result ≤ 2 ^ 64 }
+{
+    i128::from(sender.start.0) - i128::from(receiver.start.0)
+}
+
+/// How much later than its sender's clock a block of the connection may come, in ns, where the clocks of both applications
+/// are counted from their own starts. It may be negative.
 ///
-/// It is the latency of an event or message input. A continuous input has its delay and the receiver's tick, less the
-/// sender's tick where it interpolates, and less 1 ns where it holds values.
+/// It is how much later the sender starts than the receiver, together with the latency of events and messages. Of values
+/// it is in place of the latency the delay and the receiver's tick, less the sender's tick where the input interpolates,
+/// and less 1 ns where it holds them. A latency that the connection states counts as the latency and as the delay, and
+/// otherwise the input's own do.
 ///
 /// The scene has no fault, and the connection is one of its own.
 pub fn allowance_of(scene: &Scene, link: LinkId) -> i128
@@ -32,9 +47,10 @@ pub fn allowance_of(scene: &Scene, link: LinkId) -> i128
     ensures value { result ≡ allowance scene.now link }
     ensures near { unsigned_abs result ≤ 10 ^ 16 }
 {
-    let send_tick = scene.sender_of(link).tick;
-    let receive_tick = scene.receiver_of(link).tick;
-    allowance_by(scene.input_of(link), send_tick, receive_tick)
+    let (sender, receiver) = (scene.sender_of(link), scene.receiver_of(link));
+    let own = scene.link(link).latency;
+    let together = allowance_by(scene.input_of(link), own, sender.tick, receiver.tick);
+    later_start(sender, receiver) + together
 }
 
 /// How many of the connection's blocks some step of the receiver wants. They are the first ones.
@@ -46,8 +62,8 @@ pub fn wanted_blocks(scene: &Scene, link: LinkId) -> u64
     ensures { result ≡ wanted_blocks scene.now link }
 {
     let (sender, receiver) = (scene.sender_of(link), scene.receiver_of(link));
-    let sent = steps_of(scene.stop, sender.tick);
-    match steps_of(scene.stop, receiver.tick).checked_sub(1) {
+    let sent = sender.steps();
+    match receiver.steps().checked_sub(1) {
         None => 0,
         Some(last) => {
             let allowance = allowance_of(scene, link);

@@ -1,10 +1,22 @@
 //! Applications, connections and their ends, by their places.
 use crate::{AppDecl, Link, PortDecl, Scene};
-use music_base::{AppId, LinkId, PortId};
+use music_base::{AppId, LinkId, Nanos, PortId, steps_of};
 
 impl AppDecl {
-    ghost use Rattle.std.specs.Prelude.{◌≡◌, ◌<◌, length, slice_index_or};
+    ghost use Rattle.std.specs.Prelude.{◌≡◌, ◌≤◌, ◌<◌, length, slice_index_or};
+    ghost use Rattle.music_base.specs.Clocks.{steps_until};
+    ghost use Rattle.scene_model.specs.Clocks.{span};
     ghost use Rattle.scene_model.specs.Scenes.{no_port};
+
+    /// How many steps the application runs: those whose clock is before its stop, and none where it does not start before
+    /// that. Its tick is at least 1 ns.
+    pub fn steps(&self) -> u64
+        requires { 1 ≤ self.now.tick }
+        ensures { result ≡ steps_until (span self.now) self.now.tick }
+    {
+        let span = Nanos(self.stop.0.saturating_sub(self.start.0));
+        steps_of(span, self.tick)
+    }
 
     /// The port at a place, at which one stands.
     pub fn port(&self, port: PortId) -> &PortDecl

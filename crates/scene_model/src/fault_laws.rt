@@ -32,7 +32,7 @@ ghost use Rattle.scene_model.specs.declared.scene.Scene.{Scene};
 /// no two ranks of an output map one index, each connection leads from an output to an input of its kind, no two join the
 /// same ports, and at most one leads to a continuous input. So the laws on waits and orders hold of it.
 pub fn faultless_by_place()
-    ensures applications { (scene : Scene) (a : ℕ) → IsFaultless scene → a < length scene.apps → IsApp scene.stop (app_at scene a) }
+    ensures applications { (scene : Scene) (a : ℕ) → IsFaultless scene → a < length scene.apps → IsApp (app_at scene a) }
     ensures ports { (scene : Scene) (a p : ℕ) → IsFaultless scene → a < length scene.apps → p < length (app_at scene a).ports → IsPort (app_at scene a).np (port_at scene a p) }
     ensures ticks { (scene : Scene) (a : ℕ) → IsFaultless scene → IsInRange 1 longest_tick (tick scene a) }
     ensures outputs_map_once { (scene : Scene) (a p g : ℕ) → IsFaultless scene → a < length scene.apps → p < length (app_at scene a).ports → (port_at scene a p).direction ≡ Output → ranks_mapping (port_at scene a p).map g ≤ 1 }

@@ -87,6 +87,11 @@ pub fn worked_turns_hold()
         [] ∷ [] ∷ [] ∷ [] ∷ (Value 0 (pos 2) ∷ Value 1 (pos 9_223_372_036_854_775_807) ∷ []) ∷ [] ∷ [] }
     ensures answer { turn answer [] step_four ≡
         [] ∷ [] ∷ [] ∷ [] ∷ (Value 0 (pos 0) ∷ Value 1 (pos 0) ∷ []) ∷ (message (codes "go") 42 ∷ []) ∷ [] }
+    // The same step of an application that starts at 7 ns lasts from 47 to 57 ns.
+    ensures pass_down_late { turn pass_down [] (record step_four { start = 7 }) ≡
+        [] ∷ [] ∷ [] ∷ (event 1 52 ∷ []) ∷ (Value 0 (pos 0) ∷ Value 1 (pos 0) ∷ []) ∷ [] ∷ [] }
+    ensures answer_late { turn answer [] (record step_four { start = 7 }) ≡
+        [] ∷ [] ∷ [] ∷ [] ∷ (Value 0 (pos 0) ∷ Value 1 (pos 0) ∷ []) ∷ (message (codes "go") 49 ∷ []) ∷ [] }
 {}
 
 /// The whole log of a scene with loops of connections, two ranks, messages and a watched value.

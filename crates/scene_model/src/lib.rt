@@ -12,14 +12,17 @@ mod cover_laws;
 mod ends;
 mod fault_laws;
 mod laws;
+mod life_laws;
 mod order_laws;
 mod port;
 mod row;
 mod rule;
 mod scene;
 mod time_laws;
+mod together_laws;
 mod wait;
 mod worked_orders;
+mod worked_times;
 
 pub use accepted_laws::{
     accepted_scenes_are_not_refused, faultless_accepted_scenes_are_live,
@@ -30,6 +33,7 @@ pub use clocks::{allowance_of, wanted_blocks};
 pub use cover_laws::passed_waits_are_covered;
 pub use fault_laws::{faultless_by_place, worked_faults_show, worked_scenes_have_no_fault};
 pub use laws::{worked_events_hold, worked_log_holds, worked_turns_hold, worked_values_hold};
+pub use life_laws::{history_can_be_written, lives_are_proper, values_of_the_history_fit};
 pub use order_laws::{
     accepted_scenes_are_live, accepted_scenes_have_limits, acts_are_of_unfinished,
     acts_keep_counts_sound, covered_waits_have_potentials, limits_are_one, live_scenes_can_finish,
@@ -40,7 +44,12 @@ pub use row::{Row, RowItem};
 pub use rule::Rule;
 pub use scene::{AppDecl, Link, Scene};
 pub use time_laws::times_are_periods_apart;
+pub use together_laws::{connections_that_state_nothing, scenes_that_run_together};
 pub use wait::{Wait, WaitKind};
 pub use worked_orders::{
     worked_cycles_hold, worked_limits_hold, worked_order_holds, worked_scenes_are_accepted,
+};
+pub use worked_times::{
+    worked_connections_hold, worked_late_values_hold, worked_latencies_hold,
+    worked_starts_and_stops_hold, worked_starts_in_cycles_hold,
 };

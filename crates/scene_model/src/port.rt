@@ -27,13 +27,16 @@ pub struct PortDecl {
     pub direction: Direction,
     pub kind: PortKind,
     pub map: PortMap,
-    /// How much later than its time an event or a message may be delivered, in ns. 0 but at event and message inputs.
+    /// How much later than its time an event or a message may be delivered, in ns, on connections that state no latency.
+    /// 0 but at event and message inputs.
     pub latency: Nanos,
-    /// How far behind the receiver's clock a value is read, in ns. 0 but at continuous inputs.
+    /// How far behind the receiver's clock a value is read, in ns, on connections that state no latency. 0 but at continuous
+    /// inputs.
     pub delay: Nanos,
     /// Whether a value is read between two samples, or held from the last one. It counts at continuous inputs alone.
     pub interpolate: bool,
-    /// How many ticks of this application the port may buffer, where that is stated.
+    /// How many ticks of this application the port may buffer, where that is stated. It counts on connections that state
+    /// nothing of it.
     pub buffered: Option<u64>,
 }
 

@@ -8,9 +8,11 @@ stated_by-requires-clause-output c = rw c.output_of-output.ensures (has_options_
 
 pub returns-in-None-clause-value : goal.returns-in-None-clause-value
 unfolding stated
-returns-in-None-clause-value c = ap (at_most greatest_limit) (rw (c.output_of-output.ensures, c.input_of-input.ensures) at c.in-None.ensures.value)
+returns-in-None-clause-value c =
+    ap (at_most greatest_limit) (rw (c.stated_by.ensures.value, c.link-own.ensures, c.output_of-output.ensures, c.input_of-input.ensures) at c.in-None.ensures)
 
 pub returns-in-Some-clause-value : goal.returns-in-Some-clause-value
 unfolding stated
 returns-in-Some-clause-value c =
-    ap (λ m. Some m) c.min.ensures ∙ ap (at_most greatest_limit) (rw (c.output_of-output.ensures, c.input_of-input.ensures) at c.in-Some.ensures.value)
+    ap (λ m. Some m) c.min.ensures
+    ∙ ap (at_most greatest_limit) (rw (c.stated_by.ensures.value, c.link-own.ensures, c.output_of-output.ensures, c.input_of-input.ensures) at c.in-Some.ensures)

@@ -1,15 +1,27 @@
-use Rattle.std.proofs.Common.{rules, arith, FitsSigned}
+use Rattle.std.proofs.Common.{refl, rules, arith, FitsSigned, ◌+ℤ◌}
 use Rattle.std.proofs.lemmas.Int.{ints, to_z-of_z}
 use mir.Syntax.{w128}
-use Rattle.scene_model.specs.Clocks.{allowance, delay, latency, tick}
+use Rattle.scene_model.specs.Clocks.{allowance, delay, latency, start, tick}
 use Rattle.scene_model.proofs.Bounds.{IsAllowance, allowance_at, timed_at}
 use Rattle.scene_model.proofs.clocks.allowance_of.Goals as goal
 
 pub returns-clause-value : goal.returns-clause-value
-unfolding allowance delay latency tick
+unfolding allowance delay latency start tick
 returns-clause-value c =
-    let fits : FitsSigned w128 c.allowance_by.result = search rules in
-    rw (to_z-of_z w128 c.allowance_by.result fits, c.allowance_by.ensures, c.sender_of.ensures, c.receiver_of.ensures, c.input_of.ensures)
+    let later : FitsSigned w128 c.later_start.result = search rules in
+    let together : FitsSigned w128 c.allowance_by-together.result = search rules in
+    let sum : FitsSigned w128 (c.later_start.result +ℤ c.allowance_by-together.result) = search rules in
+    rw (
+      to_z-of_z w128 c.later_start.result later,
+      to_z-of_z w128 c.allowance_by-together.result together,
+      to_z-of_z w128 (c.later_start.result +ℤ c.allowance_by-together.result) sum,
+      c.later_start.ensures.value,
+      c.allowance_by-together.ensures.value,
+      c.sender_of-sender.ensures,
+      c.receiver_of-receiver.ensures,
+      c.input_of.ensures,
+      c.link-own.ensures,
+    ) refl
 
 pub returns-clause-near : goal.returns-clause-near
 returns-clause-near c =

@@ -1,8 +1,8 @@
 -- Each side computes.
 use Rattle.std.proofs.Common.{refl}
 use Rattle.std.specs.Fmt.{digits}
-use Rattle.music_base.specs.Clocks.{steps_until}
-use Rattle.scene_model.specs.Clocks.{allowance, latency, delay, tick, steps, wanted, due}
+use Rattle.music_base.specs.Clocks.{due_step_from, steps_until}
+use Rattle.scene_model.specs.Clocks.{allowance, latency, delay, start, tick, steps, wanted, due}
 use Rattle.scene_model.specs.Scenes.{sender, receiver}
 use Rattle.scene_model.specs.Tables.{arrivals, value}
 use Rattle.scene_model.specs.Turns.{times_below, times_between, saturated, turn}
@@ -11,7 +11,7 @@ use Rattle.scene_model.specs.Logs.{step_rows, rows, line_of, log_of, text_of, he
 use Rattle.scene_model.proofs.laws.worked_events_hold.Goals as goal
 
 pub returns : goal.returns
-unfolding allowance latency delay tick steps steps_until wanted due sender receiver arrivals value times_below times_between saturated turn step_output history step_rows rows line_of log_of text_of header digits
+unfolding allowance latency delay start tick steps steps_until wanted due due_step_from sender receiver arrivals value times_below times_between saturated turn step_output history step_rows rows line_of log_of text_of header digits
 returns c = record {
   event_each_tick = refl;
   slow_receiver = refl;

@@ -14,4 +14,6 @@ returns c = record {
   scale_down = refl;
   give_twice = refl;
   answer = refl;
+  pass_down_late = refl;
+  answer_late = refl;
 }

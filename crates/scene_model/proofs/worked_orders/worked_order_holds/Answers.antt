@@ -1,7 +1,7 @@
 use Rattle.std.proofs.Common.{◌≡◌, ℕ, zero, suc, ◌<◌, refl, arith, [], ◌∷◌}
 use Rattle.std.specs.Prelude.{slice_index, min}
 use Rattle.music_base.specs.Clocks.{steps_until}
-use Rattle.scene_model.specs.Clocks.{allowance, latency, delay, tick, steps, wanted, wanted_blocks}
+use Rattle.scene_model.specs.Clocks.{allowance, latency, delay, start, tick, steps, wanted, wanted_blocks}
 use Rattle.scene_model.specs.Scenes.{sender, receiver}
 use Rattle.scene_model.specs.Orders.{IsLawful, AllFinished, after_all, opening_counts}
 use Rattle.scene_model.specs.WorkedOrders.{one_step, one_step_order}
@@ -13,7 +13,7 @@ only P p zero lt = p
 only P p (suc c) lt = absurd (omega arith)
 
 lawful : IsLawful one_step (1 ∷ []) one_step_order
-unfolding allowance latency delay tick steps steps_until wanted sender receiver
+unfolding allowance latency delay start tick steps steps_until wanted sender receiver
 lawful = (
   record { app = omega arith; step_left = omega arith; all_taken = only (λ c. receiver one_step c ≡ 0 → slice_index (0 ∷ []) c ≡ wanted one_step c 0) (λ e. absurd (omega arith)); all_put = only (λ c. sender one_step c ≡ 0 → slice_index (0 ∷ []) c ≡ min 0 (wanted_blocks one_step c)) (λ e. refl) },
   (
@@ -29,7 +29,7 @@ lawful = (
 )
 
 finished : AllFinished one_step (after_all (opening_counts one_step) one_step_order)
-unfolding allowance latency delay tick steps steps_until wanted sender receiver
+unfolding allowance latency delay start tick steps steps_until wanted sender receiver
 finished zero lt = record { all_run = refl; all_put = only (λ c. sender one_step c ≡ 0 → slice_index (1 ∷ []) c ≡ wanted_blocks one_step c) (λ e. refl) }
 finished (suc zero) lt = record { all_run = refl; all_put = only (λ c. sender one_step c ≡ 1 → slice_index (1 ∷ []) c ≡ wanted_blocks one_step c) (λ e. absurd (omega arith)) }
 finished (suc (suc a)) lt = absurd (omega arith)
