@@ -1,5 +1,5 @@
 -- When a call may answer a fault of the outside.
-use Rattle.std.specs.Prelude.{◌≡◌, ℕ, ◌+◌, ◌-◌, ◌^◌, ◌<◌, ◌≤◌, ◌⊎◌, min, Result, OnErr}
+use Rattle.std.specs.Prelude.{◌≡◌, ℕ, ◌+◌, ◌-◌, ◌^◌, ◌<◌, ◌≤◌, ◌⊎◌, min, Result, OnOk, OnErr}
 
 -- where a count of faults or of calls ends, and stays
 abbrev pub last_count : ℕ
@@ -13,7 +13,8 @@ counted n = min (n + 1) last_count
 abbrev pub Rose : ℕ → ℕ → Type 0
 Rose before after = (before < after) ⊎ (after ≡ last_count)
 
--- a fault comes only where the count of faults rose in this call, and the count never falls
+-- a fault comes exactly where the count of faults rose in this call, up to its last value, and the count never falls
 pub record HasCause {T E : Type 0} (before after : ℕ) (result : Result T E) : Type 0 where
   pub never_falls : before ≤ after
+  pub stays : OnOk result (after ≡ before)
   pub rose : OnErr result (Rose before after)

@@ -2,9 +2,10 @@
 ghost use Rattle.std.specs.Prelude.{◌≡◌, ◌≤◌, ◌<◌, IfOk, OnErr, OnOk, None, length, take};
 ghost use Rattle.std.specs.Io.KnownBytes.{Appends, ReadConsumes};
 ghost use Rattle.music_base.specs.Causes.{HasCause, counted};
+ghost use Rattle.music_base.specs.Standard.{or_failed, written};
 
 use crate::{Failed, Sink, Source};
-use std::io::{Read, Write};
+use std::io::{self, Read, Write};
 use std::marker::Model;
 
 /// A reader, such as standard input, as a source. The source tells none of its bytes: nothing is claimed of what
@@ -35,6 +36,16 @@ impl<R> StdSource<R> {
     }
 }
 
+// What a reader or a writer answers, with each error of it as a failure. The end of a reader is none.
+fn or_failed<T>(answer: io::Result<T>) -> Result<T, Failed>
+    ensures { result ≡ or_failed answer }
+{
+    match answer {
+        Ok(given) => Ok(given),
+        Err(_) => Err(Failed),
+    }
+}
+
 impl<R: Read> Source for StdSource<R> {
     ghost left = { λ _. None };
 
@@ -48,13 +59,11 @@ impl<R: Read> Source for StdSource<R> {
         ensures failed { OnErr result (self.new.faults ≡ counted self.old.faults) }
         ensures cause { HasCause self.old.faults self.new.faults result }
     {
-        match self.reader.read(into) {
-            Ok(count) => Ok(count),
-            Err(_) => {
-                self.faults = self.faults.saturating_add(1);
-                Err(Failed)
-            }
+        let result = or_failed(self.reader.read(into));
+        if result.is_err() {
+            self.faults = self.faults.saturating_add(1);
         }
+        result
     }
 }
 
@@ -86,21 +95,25 @@ impl<W> StdSink<W> {
     }
 }
 
-// Writes once and flushes. A write that takes nothing of a piece that is not empty is a failure too.
+// What a writer took of so many bytes. A write that takes nothing of a piece that is not empty is a failure too.
+fn written(offered: usize, answer: io::Result<usize>) -> Result<usize, Failed>
+    ensures { result ≡ written offered answer }
+{
+    match answer {
+        Ok(0) if offered > 0 => Err(Failed),
+        Ok(count) => Ok(count),
+        Err(_) => Err(Failed),
+    }
+}
+
+// Writes once and flushes.
 fn write_through<W: Write>(writer: &mut W, from: &[u8]) -> Result<usize, Failed>
     ensures within { IfOk result (λ n. n ≤ length from.now) }
     ensures some { IfOk result (λ n. 0 < length from.now → 0 < n) }
     ensures bytes { IfOk result (λ n. Appends (W.contents writer.old) (W.contents writer.new) (take n from.now)) }
 {
-    let Ok(count) = writer.write(from) else {
-        return Err(Failed);
-    };
-    if count == 0 && !from.is_empty() {
-        return Err(Failed);
-    }
-    let Ok(()) = writer.flush() else {
-        return Err(Failed);
-    };
+    let count = written(from.len(), writer.write(from))?;
+    or_failed(writer.flush())?;
     Ok(count)
 }
 

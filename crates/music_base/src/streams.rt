@@ -32,6 +32,8 @@ pub fn read_all<S: Source>(alloc: Global, source: &mut S, most: u64) -> Result<V
     ensures whole { IfOk result (λ bytes. length bytes.items < most → IsAtEnd (S.left source.new)) }
     ensures no_more { GaveAtMost most (S.left source.old) (S.left source.new) }
     ensures cause { IsErrOf result ReadFault.Source → Rose (S.faults source.old) (S.faults source.new) }
+    ensures memory { IsErrOf result ReadFault.Memory → S.faults source.new ≡ S.faults source.old }
+    ensures stays { OnOk result (S.faults source.new ≡ S.faults source.old) }
     ensures never_falls { S.faults source.old ≤ S.faults source.new }
 {
     let mut bytes = Vec::new(alloc);
@@ -51,7 +53,7 @@ pub fn read_all<S: Source>(alloc: Global, source: &mut S, most: u64) -> Result<V
     Ok(bytes)
 }
 
-/// Writes all the bytes. Where the sink fails it took a prefix of them, and no further write is tried.
+/// Writes all the bytes. Where the sink fails it took a prefix of them.
 pub fn write_all<K: Sink>(sink: &mut K, bytes: &[u8]) -> Result<(), Failed>
     ensures all { OnOk result (Took (K.taken sink.old) bytes.now (K.taken sink.new)) }
     ensures prefix { TookPrefix (K.taken sink.old) bytes.now (K.taken sink.new) }

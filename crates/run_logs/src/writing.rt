@@ -34,6 +34,8 @@ fn write_text<K: Sink>(sink: &mut K, text: &[u8]) -> Result<(), WriteFault>
     ensures all { OnOk result (Took (K.taken sink.old) text.now (K.taken sink.new)) }
     ensures prefix { TookPrefix (K.taken sink.old) text.now (K.taken sink.new) }
     ensures cause { IsErrOf result WriteFault.Sink → Rose (K.faults sink.old) (K.faults sink.new) }
+    ensures memory { IsErrOf result WriteFault.Memory → K.faults sink.new ≡ K.faults sink.old }
+    ensures stays { OnOk result (K.faults sink.new ≡ K.faults sink.old) }
     ensures never_falls { K.faults sink.old ≤ K.faults sink.new }
 {
     match write_all(sink, text) {
@@ -53,6 +55,8 @@ fn write_lines<K: Sink>(
     ensures all { OnOk result (Took (K.taken sink.old) (flat_map (line_of scene.now) rows.now) (K.taken sink.new)) }
     ensures prefix { TookPrefix (K.taken sink.old) (flat_map (line_of scene.now) rows.now) (K.taken sink.new) }
     ensures cause { IsErrOf result WriteFault.Sink → Rose (K.faults sink.old) (K.faults sink.new) }
+    ensures memory { IsErrOf result WriteFault.Memory → K.faults sink.new ≡ K.faults sink.old }
+    ensures stays { OnOk result (K.faults sink.new ≡ K.faults sink.old) }
     ensures never_falls { K.faults sink.old ≤ K.faults sink.new }
 {
     let mut rest = rows;
@@ -68,8 +72,7 @@ fn write_lines<K: Sink>(
 }
 
 /// Writes the header and the lines of the rows. Each row is of a port of the scene, and a message's word is a word as
-/// rules state it. Where the sink fails, or memory gives out, a prefix of the text was taken, and no further write is
-/// tried.
+/// rules state it. Where the sink fails, or memory gives out, a prefix of the text was taken.
 #[tactic(auto, unfolding(scene_model::specs::Logs::text_of))]
 pub fn write_rows<K: Sink>(
     alloc: Global,
@@ -81,6 +84,8 @@ pub fn write_rows<K: Sink>(
     ensures all { OnOk result (Took (K.taken sink.old) (text_of scene.now rows.now) (K.taken sink.new)) }
     ensures prefix { TookPrefix (K.taken sink.old) (text_of scene.now rows.now) (K.taken sink.new) }
     ensures cause { IsErrOf result WriteFault.Sink → Rose (K.faults sink.old) (K.faults sink.new) }
+    ensures memory { IsErrOf result WriteFault.Memory → K.faults sink.new ≡ K.faults sink.old }
+    ensures stays { OnOk result (K.faults sink.new ≡ K.faults sink.old) }
     ensures never_falls { K.faults sink.old ≤ K.faults sink.new }
 {
     write_text(sink, header())?;

@@ -1,4 +1,4 @@
-use Rattle.std.proofs.Common.{arith}
+use Rattle.std.proofs.Common.{◌∙◌, arith}
 use Rattle.std.proofs.lemmas.List.{take_all}
 use Rattle.music_base.proofs.Transfers.{Took-append, take-append-take_drop}
 use Rattle.music_base.proofs.streams.write_all.Goals as goal
@@ -7,7 +7,7 @@ pub loop-done-preserved : goal.loop-done-preserved
 loop-done-preserved g c = record {
   within = omega (arith, c.in_ok-done.ensures.within);
   taken = rw (← take-append-take_drop c.args.bytes.now c.loop-done.done c.in_ok-done.field-0 c.loop-done.invariant.within c.in_ok-done.ensures.within) (Took-append _ _ _ _ _ c.loop-done.invariant.taken c.in_ok-done.ensures.bytes);
-  never_falls = omega (arith, c.in_ok-done.ensures.cause.never_falls);
+  stays = c.in_ok-done.ensures.cause.stays ∙ c.loop-done.invariant.stays;
 }
 
 pub returns-clause-all : goal.returns-clause-all

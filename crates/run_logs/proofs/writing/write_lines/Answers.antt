@@ -1,11 +1,11 @@
-use Rattle.std.proofs.Common.{◌≡◌, ◌∙◌, ap, sym, length, take, arith}
+use Rattle.std.proofs.Common.{◌≡◌, ◌∙◌, refl, ap, sym, length, take, arith}
 use Rattle.std.proofs.lemmas.Bool.{eqb-true, eqb-false}
 use Rattle.std.proofs.lemmas.List.{length-drop}
 use Rattle.run_logs.proofs.Batches.{lines, none_written, writable_parts, batch_written, all_written, written_prefix, batch_prefix}
 use Rattle.run_logs.proofs.writing.write_lines.Goals as goal
 
 pub loop-rest-init : goal.loop-rest-init
-loop-rest-init g c = record { written = none_written _ _ _ c.requires; never_falls = omega arith }
+loop-rest-init g c = record { written = none_written _ _ _ c.requires; stays = refl }
 
 pub returns-in_default-clause-prefix : goal.returns-in_default-clause-prefix
 returns-in_default-clause-prefix g c = written_prefix _ _ _ _ _ c.loop-rest.invariant.written
@@ -22,7 +22,7 @@ loop-rest-preserved g c =
     c.deref.ensures.value ∙ c.in-Ok.ensures ∙ ap (lines c.args.scene.now) c.split_at.ensures.front in
     record {
       written = rw c.split_at.ensures.back (batch_written _ _ _ _ _ _ _ c.loop-rest.invariant.written (rw text at c.in_ok-write_text.ensures.all));
-      never_falls = omega (arith, c.in_ok-write_text.ensures.never_falls, c.loop-rest.invariant.never_falls);
+      stays = c.in_ok-write_text.ensures.stays ∙ c.loop-rest.invariant.stays;
     }
 
 pub returns-clause-prefix : goal.returns-clause-prefix
