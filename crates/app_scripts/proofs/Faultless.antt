@@ -79,9 +79,9 @@ kept ports tick lasts before words rule so_far gave = elim (cases_lt (length bef
 ]
 
 -- all rules of a text are such rules
-pub rules_of-are : (ports : List PortDecl) (tick stop : ℕ) (text : List ℕ) (rules : List Rule) → rules_of ports tick stop text ≡ Ok rules
-    → AreRules ports tick (runs_for stop tick) rules
-rules_of-are ports tick stop text rules gave =
-    let lasts = runs_for stop tick in
+pub rules_of-are : (ports : List PortDecl) (tick span : ℕ) (text : List ℕ) (rules : List Rule) → rules_of ports tick span text ≡ Ok rules
+    → AreRules ports tick (runs_for span tick) rules
+rules_of-are ports tick span text rules gave =
+    let lasts = runs_for span tick in
     in_turn-keeps (rule_beside ports tick lasts) (AreRules ports tick lasts) (kept ports tick lasts) (declarations text) [] rules
     (record { spellable = refl; stand = refl; few = omega arith }) gave

@@ -1,11 +1,12 @@
 -- The rule that words spell has numbers and words that a text can spell.
-use Rattle.std.proofs.Common.{◌≡◌, ℕ, ℤ, true, List}
-use Rattle.std.specs.Prelude.{Some, IfSome, codes}
+use Rattle.std.proofs.Common.{◌≡◌, ℕ, ℤ, Bool, true, false, List, [], ◌∷◌}
+use Rattle.std.specs.Prelude.{Option, Some, IfSome, bytes_eq, codes, if◌then◌else◌}
 use Rattle.std.specs.Cmp.Derive.{both_true}
 use Rattle.music_base.specs.Names.{is_name, is_word}
 use Rattle.text_words.specs.Numbers.{fixed}
+use Rattle.text_words.specs.OneWord.{name_in, time_in}
 use Rattle.scene_model.specs.declared.rule.Rule.{Rule}
-use Rattle.app_scripts.specs.Forms.{Words, name_word, index_word, time_word, shift_word, scale_word, message_word, name_after, time_after, fixed_after, shift_after, scale_after, last_time_after, last_fixed_after, first, only, emit_at, emit_every, pass, set_value, ramp, copy_values, when_over, say, reply, rule_in}
+use Rattle.app_scripts.specs.Forms.{Words, index_word, shift_word, scale_word, message_word, name_after, time_after, fixed_after, shift_after, scale_after, last_time_after, last_fixed_after, first, only, emit_at, emit_every, pass, set_value, ramp, copy_values, when_over, say, reply, rule_in}
 use Rattle.scene_model.specs.Limits.{greatest_shift}
 use Rattle.scene_model.specs.Spellable.{is_index, is_time, is_value, lies_within, is_spellable}
 use Rattle.text_words.proofs.Options.{IfSome-bind, IfSome-or}
@@ -51,7 +52,10 @@ IsWorded p = is_word p.0 ≡ true
 
 name_after_is : (key : List ℕ) (words : Words) → IfSome (name_after key words) IsNamed
 unfolding name_after
-name_after_is = IfSome-first_after (λ name. is_name name ≡ true) name_word name_is
+name_after_is = IfSome-first_after (λ name. is_name name ≡ true) name_in name_is
+
+name_first_is : (words : Words) → IfSome (first name_in words) IsNamed
+name_first_is = IfSome-first (λ name. is_name name ≡ true) name_in name_is
 
 index_first_is : (words : Words) → IfSome (first index_word words) IsIndexed
 index_first_is = IfSome-first IsIndex index_word index_is
@@ -61,7 +65,7 @@ message_first_is = IfSome-first (λ message. is_word message ≡ true) message_w
 
 time_after_is : (key : List ℕ) (words : Words) → IfSome (time_after key words) IsTimed
 unfolding time_after
-time_after_is = IfSome-first_after IsTime time_word time_is
+time_after_is = IfSome-first_after IsTime time_in time_is
 
 fixed_after_is : (key : List ℕ) (words : Words) → IfSome (fixed_after key words) IsValued
 unfolding fixed_after
@@ -77,7 +81,7 @@ scale_after_is = IfSome-first_after IsScale scale_word scale_is
 
 last_time_after_is : (key : List ℕ) (words : Words) → IfSome (last_time_after key words) IsTime
 unfolding last_time_after
-last_time_after_is = IfSome-only_after IsTime time_word time_is
+last_time_after_is = IfSome-only_after IsTime time_in time_is
 
 last_fixed_after_is : (key : List ℕ) (words : Words) → IfSome (last_fixed_after key words) IsValue
 unfolding last_fixed_after
@@ -95,14 +99,14 @@ last_index_is = IfSome-only IsIndex index_word index_is
 emit_at_is : (words : Words) → IfSome (emit_at words) Fits
 unfolding emit_at
 emit_at_is words =
-    IfSome-bind IsNamed Fits _ _ (name_after_is (codes "emit") words) (λ port named.
+    IfSome-bind IsNamed Fits _ _ (name_first_is words) (λ port named.
     IfSome-bind IsIndexed Fits _ _ (index_first_is port.1) (λ index indexed.
     IfSome-bind IsTime Fits _ _ (last_time_after_is (codes "at") index.1) (λ time timed. both_true (both_true named indexed) timed)))
 
 emit_every_is : (words : Words) → IfSome (emit_every words) Fits
 unfolding emit_every
 emit_every_is words =
-    IfSome-bind IsNamed Fits _ _ (name_after_is (codes "emit") words) (λ port named.
+    IfSome-bind IsNamed Fits _ _ (name_first_is words) (λ port named.
     IfSome-bind IsIndexed Fits _ _ (index_first_is port.1) (λ index indexed.
     IfSome-bind IsTimed Fits _ _ (time_after_is (codes "every") index.1) (λ every often.
     IfSome-bind IsTime Fits _ _ (last_time_after_is (codes "from") every.1) (λ time timed. both_true (both_true (both_true named indexed) often) timed))))
@@ -110,7 +114,7 @@ emit_every_is words =
 pass_is : (words : Words) → IfSome (pass words) Fits
 unfolding pass
 pass_is words =
-    IfSome-bind IsNamed Fits _ _ (name_after_is (codes "pass") words) (λ input from.
+    IfSome-bind IsNamed Fits _ _ (name_first_is words) (λ input from.
     IfSome-bind IsNamed Fits _ _ (name_after_is (codes "to") input.1) (λ output to.
     IfSome-bind IsShifted Fits _ _ (shift_after_is (codes "shift") output.1) (λ shift near.
     IfSome-bind IsTime Fits _ _ (last_time_after_is (codes "after") shift.1) (λ time timed. both_true (both_true (both_true from to) near) timed))))
@@ -118,14 +122,14 @@ pass_is words =
 set_value_is : (words : Words) → IfSome (set_value words) Fits
 unfolding set_value
 set_value_is words =
-    IfSome-bind IsNamed Fits _ _ (name_after_is (codes "set") words) (λ port named.
+    IfSome-bind IsNamed Fits _ _ (name_first_is words) (λ port named.
     IfSome-bind IsIndexed Fits _ _ (index_first_is port.1) (λ index indexed.
     IfSome-bind IsValue Fits _ _ (last_fixed_is index.1) (λ value valued. both_true (both_true named indexed) valued)))
 
 ramp_is : (words : Words) → IfSome (ramp words) Fits
 unfolding ramp
 ramp_is words =
-    IfSome-bind IsNamed Fits _ _ (name_after_is (codes "ramp") words) (λ port named.
+    IfSome-bind IsNamed Fits _ _ (name_first_is words) (λ port named.
     IfSome-bind IsIndexed Fits _ _ (index_first_is port.1) (λ index indexed.
     IfSome-bind IsValued Fits _ _ (fixed_after_is (codes "from") index.1) (λ start begun.
     IfSome-bind IsValue Fits _ _ (last_fixed_after_is (codes "by") start.1) (λ by gained. both_true (both_true (both_true named indexed) begun) gained))))
@@ -133,7 +137,7 @@ ramp_is words =
 copy_values_is : (words : Words) → IfSome (copy_values words) Fits
 unfolding copy_values
 copy_values_is words =
-    IfSome-bind IsNamed Fits _ _ (name_after_is (codes "copy") words) (λ input from.
+    IfSome-bind IsNamed Fits _ _ (name_first_is words) (λ input from.
     IfSome-bind IsNamed Fits _ _ (name_after_is (codes "to") input.1) (λ output to.
     IfSome-bind IsScaled Fits _ _ (scale_after_is (codes "scale") output.1) (λ scale scaled.
     IfSome-bind IsValue Fits _ _ (last_fixed_after_is (codes "add") scale.1) (λ add added. both_true (both_true (both_true (both_true from to) scaled.0) scaled.1) added))))
@@ -141,7 +145,7 @@ copy_values_is words =
 when_over_is : (words : Words) → IfSome (when_over words) Fits
 unfolding when_over
 when_over_is words =
-    IfSome-bind IsNamed Fits _ _ (name_after_is (codes "when") words) (λ input from.
+    IfSome-bind IsNamed Fits _ _ (name_first_is words) (λ input from.
     IfSome-bind IsIndexed Fits _ _ (index_first_is input.1) (λ index indexed.
     IfSome-bind IsValued Fits _ _ (fixed_after_is (codes "over") index.1) (λ over bound.
     IfSome-bind IsNamed Fits _ _ (name_after_is (codes "emit") over.1) (λ output to.
@@ -150,7 +154,7 @@ when_over_is words =
 say_is : (words : Words) → IfSome (say words) Fits
 unfolding say
 say_is words =
-    IfSome-bind IsNamed Fits _ _ (name_after_is (codes "say") words) (λ port named.
+    IfSome-bind IsNamed Fits _ _ (name_first_is words) (λ port named.
     IfSome-bind IsWorded Fits _ _ (message_first_is port.1) (λ word worded.
     IfSome-bind IsTimed Fits _ _ (time_after_is (codes "every") word.1) (λ every often.
     IfSome-bind IsTime Fits _ _ (last_time_after_is (codes "from") every.1) (λ time timed. both_true (both_true (both_true named worded) often) timed))))
@@ -158,16 +162,24 @@ say_is words =
 reply_is : (words : Words) → IfSome (reply words) Fits
 unfolding reply
 reply_is words =
-    IfSome-bind IsNamed Fits _ _ (name_after_is (codes "reply") words) (λ input from.
+    IfSome-bind IsNamed Fits _ _ (name_first_is words) (λ input from.
     IfSome-bind IsNamed Fits _ _ (name_after_is (codes "to") input.1) (λ output to.
     IfSome-bind IsTime Fits _ _ (last_time_after_is (codes "after") output.1) (λ time timed. both_true (both_true from to) timed)))
 
+-- one form or another
+either : (test : Bool) (a b : Option Rule) → IfSome a Fits → IfSome b Fits → IfSome (if test then a else b) Fits
+either true a b is_a is_b = is_a
+either false a b is_a is_b = is_b
+
 rule_in_is : (words : Words) → IfSome (rule_in words) Fits
 unfolding rule_in
-rule_in_is words =
-    IfSome-or Fits _ _ (emit_at_is words) (IfSome-or Fits _ _ (emit_every_is words) (IfSome-or Fits _ _ (pass_is words)
-    (IfSome-or Fits _ _ (set_value_is words) (IfSome-or Fits _ _ (ramp_is words) (IfSome-or Fits _ _ (copy_values_is words)
-    (IfSome-or Fits _ _ (when_over_is words) (IfSome-or Fits _ _ (say_is words) (IfSome-or Fits _ _ (reply_is words) tt))))))))
+rule_in_is [] = tt
+rule_in_is (key ∷ words) =
+    either (bytes_eq key (codes "emit")) _ _ (IfSome-or Fits _ _ (emit_at_is words) (emit_every_is words))
+    (either (bytes_eq key (codes "pass")) _ _ (pass_is words) (either (bytes_eq key (codes "set")) _ _ (set_value_is words)
+    (either (bytes_eq key (codes "ramp")) _ _ (ramp_is words) (either (bytes_eq key (codes "copy")) _ _ (copy_values_is words)
+    (either (bytes_eq key (codes "when")) _ _ (when_over_is words) (either (bytes_eq key (codes "say")) _ _ (say_is words)
+    (either (bytes_eq key (codes "reply")) _ _ (reply_is words) tt)))))))
 
 -- what words spell is a rule that a text can spell
 pub is_spellable-rule_in : (words : Words) (rule : Rule) → rule_in words ≡ Some rule → is_spellable rule ≡ true

@@ -8,9 +8,10 @@ use Rattle.music_base.specs.Names.{is_name, is_word}
 use Rattle.music_base.specs.Counts.{count_up_to}
 use Rattle.text_words.specs.Numbers.{with_sign, signed_within, is_decimal, whole, fraction, worth, millionths, without_minus, fixed, most_whole_digits, most_fraction_digits}
 use Rattle.text_words.specs.Parts.{is_byte}
+use Rattle.text_words.specs.OneWord.{name_in, time_in}
 use Rattle.music_base.proofs.DigitValues.{digits_value-below}
 use Rattle.text_words.proofs.Digits.{worth_below, whole_is_few, fraction_is_few}
-use Rattle.app_scripts.specs.Forms.{name_word, index_word, time_word, shift_word, slash, scale_word, message_word}
+use Rattle.app_scripts.specs.Forms.{index_word, shift_word, slash, scale_word, message_word}
 use Rattle.scene_model.specs.Spellable.{is_index, is_time, lies_within, is_value, is_denominator}
 use Rattle.text_words.proofs.Options.{IfSome-bind, IfSome-when, IfSome-map, count_up_to-is}
 use Rattle.music_base.proofs.TimeRange.{result_ok-time_value}
@@ -49,8 +50,7 @@ fixed_is text =
 
 -- ---- words
 
-pub name_is : (word : List ℕ) → IfSome (name_word word) (λ name. is_name name ≡ true)
-unfolding name_word
+pub name_is : (word : List ℕ) → IfSome (name_in word) (λ name. is_name name ≡ true)
 name_is word = IfSome-when (λ name. is_name name ≡ true) word (is_name word) (λ is. is)
 
 pub message_is : (word : List ℕ) → IfSome (message_word word) (λ message. is_word message ≡ true)
@@ -61,8 +61,7 @@ pub index_is : (word : List ℕ) → IfSome (index_word word) (λ index. is_inde
 unfolding index_word
 index_is word = count_up_to-is greatest_index word
 
-pub time_is : (word : List ℕ) → IfSome (time_word word) (λ time. is_time time ≡ true)
-unfolding time_word
+pub time_is : (word : List ℕ) → IfSome (time_in word) (λ time. is_time time ≡ true)
 time_is word = result_ok-time_value word
 
 pub shift_is : (word : List ℕ) → IfSome (shift_word word) (λ shift. lies_within greatest_shift shift ≡ true)

@@ -1,30 +1,22 @@
 -- The nine forms of a rule. Each reads a rule's words from the front, and gives nothing where they have not the form.
-use Rattle.std.specs.Prelude.{ℕ, nat_le, bytes_eq, if◌then◌else◌, List, [], ◌∷◌, ℤ, Option, Some, None, codes}
+use Rattle.std.specs.Prelude.{◌≡◌, ℕ, nat_le, bytes_eq, if◌then◌else◌, List, [], ◌∷◌, ℤ, Option, Some, None, MatchOption, Result, IfOk, codes}
 use Rattle.std.specs.List.{before_first, after_first}
-use Rattle.std.specs.Result.{result_ok}
-use Rattle.music_base.specs.Names.{is_name, is_word}
-use Rattle.music_base.specs.Times.{time_value}
+use Rattle.std.specs.Option.{option_or}
+use Rattle.music_base.specs.Names.{is_word}
 use Rattle.music_base.specs.Counts.{count_up_to}
 use Rattle.text_words.specs.Numbers.{signed_within, fixed}
-use Rattle.text_words.specs.Options.{◌>>=◌, ◌when◌, first_some}
+use Rattle.text_words.specs.Options.{◌>>=◌, ◌when◌}
 use Rattle.text_words.specs.Parts.{is_byte}
+use Rattle.text_words.specs.OneWord.{name_in, time_in}
 use Rattle.scene_model.specs.Limits.{greatest_shift, greatest_numerator, greatest_denominator, greatest_index}
 use Rattle.scene_model.specs.declared.rule.Rule.{Rule}
 use Rattle.scene_model.specs.declared.rule.Rule.TheVariants.{EmitAt, EmitEvery, Pass, SetValue, Ramp, CopyValues, When, Say, Reply}
 
 -- ---- what one word spells
 
--- a NAME
-unfoldable pub name_word : List ℕ → Option (List ℕ)
-name_word word = word when is_name word
-
 -- an INDEX: a COUNT that is a global index
 unfoldable pub index_word : List ℕ → Option ℕ
 index_word word = count_up_to greatest_index word
-
--- a time, in nanoseconds
-unfoldable pub time_word : List ℕ → Option ℕ
-time_word word = result_ok (time_value word)
 
 -- the shift of an index
 unfoldable pub shift_word : List ℕ → Option ℤ
@@ -68,10 +60,10 @@ only spelled _ = None
 
 -- a word, and what the next one spells
 unfoldable pub name_after : List ℕ → Words → Option (List ℕ × Words)
-name_after key words = after key words >>= first name_word
+name_after key words = after key words >>= first name_in
 
 unfoldable pub time_after : List ℕ → Words → Option (ℕ × Words)
-time_after key words = after key words >>= first time_word
+time_after key words = after key words >>= first time_in
 
 unfoldable pub fixed_after : List ℕ → Words → Option (ℤ × Words)
 fixed_after key words = after key words >>= first fixed
@@ -84,17 +76,17 @@ scale_after key words = after key words >>= first scale_word
 
 -- a word, and what the last one spells
 unfoldable pub last_time_after : List ℕ → Words → Option ℕ
-last_time_after key words = after key words >>= only time_word
+last_time_after key words = after key words >>= only time_in
 
 unfoldable pub last_fixed_after : List ℕ → Words → Option ℤ
 last_fixed_after key words = after key words >>= only fixed
 
--- ---- the forms
+-- ---- the forms, each behind its first word
 
 -- emit PORT INDEX at TIME
 unfoldable pub emit_at : Words → Option Rule
 emit_at words = do
-  port ← name_after (codes "emit") words
+  port ← first name_in words
   index ← first index_word port.1
   time ← last_time_after (codes "at") index.1
   Some (EmitAt port.0 index.0 time)
@@ -102,7 +94,7 @@ emit_at words = do
 -- emit PORT INDEX every EVERY from FIRST
 unfoldable pub emit_every : Words → Option Rule
 emit_every words = do
-  port ← name_after (codes "emit") words
+  port ← first name_in words
   index ← first index_word port.1
   every ← time_after (codes "every") index.1
   from ← last_time_after (codes "from") every.1
@@ -111,7 +103,7 @@ emit_every words = do
 -- pass INPUT to OUTPUT shift SHIFT after AFTER
 unfoldable pub pass : Words → Option Rule
 pass words = do
-  input ← name_after (codes "pass") words
+  input ← first name_in words
   output ← name_after (codes "to") input.1
   shift ← shift_after (codes "shift") output.1
   after ← last_time_after (codes "after") shift.1
@@ -120,7 +112,7 @@ pass words = do
 -- set PORT INDEX VALUE
 unfoldable pub set_value : Words → Option Rule
 set_value words = do
-  port ← name_after (codes "set") words
+  port ← first name_in words
   index ← first index_word port.1
   value ← only fixed index.1
   Some (SetValue port.0 index.0 value)
@@ -128,7 +120,7 @@ set_value words = do
 -- ramp PORT INDEX from START by BY
 unfoldable pub ramp : Words → Option Rule
 ramp words = do
-  port ← name_after (codes "ramp") words
+  port ← first name_in words
   index ← first index_word port.1
   start ← fixed_after (codes "from") index.1
   by ← last_fixed_after (codes "by") start.1
@@ -137,7 +129,7 @@ ramp words = do
 -- copy INPUT to OUTPUT scale NUMERATOR/DENOMINATOR add ADD
 unfoldable pub copy_values : Words → Option Rule
 copy_values words = do
-  input ← name_after (codes "copy") words
+  input ← first name_in words
   output ← name_after (codes "to") input.1
   scale ← scale_after (codes "scale") output.1
   add ← last_fixed_after (codes "add") scale.1
@@ -146,7 +138,7 @@ copy_values words = do
 -- when INPUT INDEX over OVER emit OUTPUT EMITTED
 unfoldable pub when_over : Words → Option Rule
 when_over words = do
-  input ← name_after (codes "when") words
+  input ← first name_in words
   index ← first index_word input.1
   over ← fixed_after (codes "over") index.1
   output ← name_after (codes "emit") over.1
@@ -156,7 +148,7 @@ when_over words = do
 -- say PORT WORD every EVERY from FIRST
 unfoldable pub say : Words → Option Rule
 say words = do
-  port ← name_after (codes "say") words
+  port ← first name_in words
   word ← first message_word port.1
   every ← time_after (codes "every") word.1
   from ← last_time_after (codes "from") every.1
@@ -165,15 +157,24 @@ say words = do
 -- reply INPUT to OUTPUT after AFTER
 unfoldable pub reply : Words → Option Rule
 reply words = do
-  input ← name_after (codes "reply") words
+  input ← first name_in words
   output ← name_after (codes "to") input.1
   after ← last_time_after (codes "after") output.1
   Some (Reply input.0 output.0 after)
 
--- the nine forms. No words have two of them
-abbrev pub forms : List (Words → Option Rule)
-forms = emit_at ∷ emit_every ∷ pass ∷ set_value ∷ ramp ∷ copy_values ∷ when_over ∷ say ∷ reply ∷ []
-
--- the rule that the words spell
+-- the rule that the words spell, by the first of them
 unfoldable pub rule_in : Words → Option Rule
-rule_in words = first_some (λ form. form words) forms
+rule_in [] = None
+rule_in (key ∷ words) =
+    if bytes_eq key (codes "emit") then option_or (emit_at words) (emit_every words)
+    else if bytes_eq key (codes "pass") then pass words
+    else if bytes_eq key (codes "set") then set_value words
+    else if bytes_eq key (codes "ramp") then ramp words
+    else if bytes_eq key (codes "copy") then copy_values words
+    else if bytes_eq key (codes "when") then when_over words
+    else if bytes_eq key (codes "say") then say words
+    else if bytes_eq key (codes "reply") then reply words else None
+
+-- what is read is the rule that is spelled, or nothing where none is; nothing is said of want of memory
+abbrev pub IsRead : {E : Type 0} → Option Rule → Option (Result Rule E) → Type 0
+IsRead spelled read = MatchOption read (spelled ≡ None) (λ rule. IfOk rule (λ r. spelled ≡ Some r))

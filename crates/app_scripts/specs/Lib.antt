@@ -1,4 +1,3 @@
 pub mod Forms
 pub mod Rules
-pub mod Spelled
 pub mod WorkedRules

@@ -36,10 +36,10 @@ rule_beside ports tick lasts before words =
     if nat_le most_rules (length before) then Err (RuleText (length before + 1))
     else judged ports tick lasts (length before + 1) (rule_in words)
 
--- the rules that a text spells for an application of these ports, this tick and this stop, or the fault of the first
--- faulty rule
+-- the rules that a text spells for an application of these ports and this tick whose steps begin within a span, or the
+-- fault of the first faulty rule
 abbrev pub rules_of : List PortDecl → ℕ → ℕ → List ℕ → Result (List Rule) RuleFault
-rules_of ports tick stop text = in_turn (rule_beside ports tick (runs_for stop tick)) [] (declarations text)
+rules_of ports tick span text = in_turn (rule_beside ports tick (runs_for span tick)) [] (declarations text)
 
 -- the reading has this fault; nothing is said of want of memory
 abbrev pub IsFaultOf : {A : Type 0} → Result A RuleFault → RuleFault → Type 0

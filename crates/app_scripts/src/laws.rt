@@ -62,5 +62,5 @@ pub fn worked_rules()
 /// The rules that a text spells for an application are rules of a scene without a fault: they lie within the limits of
 /// numbers and words, and each has the ports, the indices and the times that it asks for; and there are not too many.
 pub fn spelled_rules_stand()
-    ensures { (ports : List PortDecl) (tick stop : ℕ) (text : List ℕ) (rules : List Rule) → rules_of ports tick stop text ≡ Ok rules → AreRules ports tick (runs_for stop tick) rules }
+    ensures { (ports : List PortDecl) (tick span : ℕ) (text : List ℕ) (rules : List Rule) → rules_of ports tick span text ≡ Ok rules → AreRules ports tick (runs_for span tick) rules }
 {}

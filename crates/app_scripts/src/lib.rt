@@ -7,7 +7,6 @@ mod fault;
 mod forms;
 mod laws;
 mod reading;
-mod spelled;
 mod standing;
 mod words;
 

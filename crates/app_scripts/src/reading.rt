@@ -1,5 +1,5 @@
 //! Reading the rules of a text, one after the other.
-ghost use Rattle.std.specs.Prelude.{◌≡◌, ◌≤◌, ◌<◌, length, IfOk, IfErr, OnOk, true};
+ghost use Rattle.std.specs.Prelude.{◌≡◌, ◌≤◌, ◌<◌, ◌-◌, length, IfOk, IfErr, OnOk, true};
 ghost use Rattle.text_words.specs.Words.{words};
 ghost use Rattle.scene_model.specs.Limits.{most_rules};
 ghost use Rattle.scene_model.specs.Ports.{names_differ};
@@ -8,7 +8,6 @@ ghost use Rattle.app_scripts.specs.Rules.{IsFaultOf, rule_beside, rules_of};
 
 use crate::RuleFault;
 use crate::forms::rule_in;
-use crate::spelled::owned;
 use crate::standing::fault_of;
 use music_base::{Items, Nanos, Word, steps_of};
 use scene_model::{PortDecl, Rule};
@@ -37,25 +36,28 @@ fn read_rule(
     if before.len() >= MOST_RULES {
         return Err(RuleFault::RuleText { place });
     }
-    let Some(rule) = rule_in(piece) else {
+    let Some(rule) = rule_in(alloc, piece).transpose()? else {
         return Err(RuleFault::RuleText { place });
     };
-    if let Some(fault) = fault_of(ports, tick, lasts, place, &rule) {
-        return Err(fault);
+    match fault_of(ports, tick, lasts, place, &rule) {
+        Some(fault) => Err(fault),
+        None => Ok(rule),
     }
-    Ok(owned(alloc, &rule)?)
 }
 
-/// How long an application runs, in ns: its number of steps times its tick.
+/// How long an application runs from its start until its stop, in ns: its number of steps times its tick, and 0 where it does
+/// not start before its stop.
 #[tactic(auto, unfolding(scene_model::specs::Rules::runs_for))]
-fn runs_for(stop: Nanos, tick: Nanos) -> u128
+fn runs_for(start: Nanos, tick: Nanos, stop: Nanos) -> u128
     requires { 1 ≤ tick }
-    ensures { result ≡ runs_for stop tick }
+    ensures { result ≡ runs_for (stop - start) tick }
 {
-    u128::from(steps_of(stop, tick)) * u128::from(tick.0)
+    let span = Nanos(stop.0.saturating_sub(start.0));
+    u128::from(steps_of(span, tick)) * u128::from(tick.0)
 }
 
-/// The rules that the text spells, for an application of these ports that ticks each `tick` ns until the stop.
+/// The rules that the text spells, for an application of these ports that ticks each `tick` ns from its start until its
+/// stop.
 ///
 /// The text is cut at each `;`, and a piece of blanks alone is skipped and not counted. A rule has one of these forms,
 /// its words separated by blanks:
@@ -77,21 +79,22 @@ fn runs_for(stop: Nanos, tick: Nanos) -> u128
 /// rank of its port; d is not less than the tick; t is 0, or the run, which lasts the number of steps times the tick,
 /// holds it more than 1,000,000 times.
 ///
-/// The tick is at least 1 ns, and no two ports have one name.
+/// Start, tick and stop are in ns. The tick is at least 1 ns, and no two ports have one name.
 pub fn read_rules(
     alloc: Global,
     text: &Word,
     ports: &[PortDecl],
+    start: Nanos,
     tick: Nanos,
     stop: Nanos,
 ) -> Result<Items<Rule>, RuleFault>
     requires tick { 1 ≤ tick }
     requires names { names_differ ports.now ≡ true }
-    ensures rules { IfOk result (λ rules. rules_of ports.now tick stop text.now ≡ Ok rules) }
-    ensures fault { IfErr result (IsFaultOf (rules_of ports.now tick stop text.now)) }
+    ensures rules { IfOk result (λ rules. rules_of ports.now tick (stop - start) text.now ≡ Ok rules) }
+    ensures fault { IfErr result (IsFaultOf (rules_of ports.now tick (stop - start) text.now)) }
     ensures few { IfOk result (λ rules. length rules ≤ most_rules) }
 {
-    let lasts = runs_for(stop, tick);
+    let lasts = runs_for(start, tick, stop);
     let mut rules = Items::new(alloc);
     let mut rest = text.as_slice();
     while let Some((piece, others)) = split_declaration(rest) {

@@ -1,8 +1,8 @@
 //! Whether a rule stands in an application: its ports, its indices, and its times.
-ghost use Rattle.std.specs.Prelude.{◌≡◌, true};
+ghost use Rattle.std.specs.Prelude.{◌≡◌};
 ghost use Rattle.std.specs.List.{find};
 ghost use Rattle.std.specs.Option.{option_copied};
-ghost use Rattle.music_base.specs.Names.{is_name};
+ghost use Rattle.scene_model.specs.declared.port.Direction.TheVariants.{Input, Output};
 ghost use Rattle.scene_model.specs.Rules.{
   after_fits,
   has_port,
@@ -12,13 +12,11 @@ ghost use Rattle.scene_model.specs.Rules.{
   ports_stand,
   rate_fits,
 };
-ghost use Rattle.scene_model.specs.Spellable.{is_spellable};
 ghost use Rattle.app_scripts.specs.Rules.{fault_of, is_named};
-ghost use Rattle.app_scripts.specs.Spelled.{input_kind, output_kind, rule_of, source_kind};
 
 use crate::RuleFault;
-use crate::spelled::{Relay, Source, SpelledRule};
-use scene_model::{Direction, PortDecl, PortKind};
+use music_base::{Name, Nanos};
+use scene_model::{Direction, PortDecl, PortKind, Rule};
 
 /// How many periods of a rule the whole run may hold.
 const MOST_PERIODS: u128 = 1_000_000;
@@ -32,134 +30,110 @@ fn port_named<'a>(ports: &'a [PortDecl], name: &[u8]) -> Option<&'a PortDecl>
 
 /// Whether a port of this name stands there, of this direction and kind.
 #[tactic(auto, unfolding(scene_model::specs::Rules::has_port), using(crate::proofs::Named::named))]
-fn has_port(ports: &[PortDecl], name: &[u8], direction: Direction, kind: PortKind) -> bool
-    requires { is_name name.now ≡ true }
+fn has_port(ports: &[PortDecl], name: &Name, direction: Direction, kind: PortKind) -> bool
     ensures { result ≡ has_port ports.now name.now direction kind }
 {
-    match port_named(ports, name) {
+    match port_named(ports, name.as_slice()) {
         Some(port) => port.direction == direction && port.kind == kind,
         None => false,
     }
 }
 
-/// What a port is to carry to put this out.
-fn source_kind(form: &Source<'_>) -> PortKind
-    ensures { result ≡ source_kind form.now }
+fn has_input(ports: &[PortDecl], name: &Name, kind: PortKind) -> bool
+    ensures { result ≡ has_port ports.now name.now Input kind }
 {
-    match form {
-        Source::EmitAt { .. } | Source::EmitEvery { .. } => PortKind::Events,
-        Source::SetValue { .. } | Source::Ramp { .. } => PortKind::Values,
-        Source::Say { .. } => PortKind::Messages,
-    }
+    has_port(ports, name, Direction::Input, kind)
 }
 
-/// What the input is to carry.
-fn input_kind(form: &Relay) -> PortKind
-    ensures { result ≡ input_kind form.now }
+fn has_output(ports: &[PortDecl], name: &Name, kind: PortKind) -> bool
+    ensures { result ≡ has_port ports.now name.now Output kind }
 {
-    match form {
-        Relay::Pass { .. } => PortKind::Events,
-        Relay::CopyValues { .. } | Relay::When { .. } => PortKind::Values,
-        Relay::Reply { .. } => PortKind::Messages,
-    }
-}
-
-/// What the output is to carry.
-fn output_kind(form: &Relay) -> PortKind
-    ensures { result ≡ output_kind form.now }
-{
-    match form {
-        Relay::Pass { .. } | Relay::When { .. } => PortKind::Events,
-        Relay::CopyValues { .. } => PortKind::Values,
-        Relay::Reply { .. } => PortKind::Messages,
-    }
+    has_port(ports, name, Direction::Output, kind)
 }
 
 /// Whether the rule names such ports as it asks for.
-fn ports_stand(ports: &[PortDecl], rule: &SpelledRule<'_>) -> bool
-    requires { is_spellable (rule_of rule.now) ≡ true }
-    ensures { result ≡ ports_stand ports.now (rule_of rule.now) }
+fn ports_stand(ports: &[PortDecl], rule: &Rule) -> bool
+    ensures { result ≡ ports_stand ports.now rule.now }
 {
-    use Direction::{Input, Output};
+    use PortKind::{Events, Messages, Values};
     match rule {
-        SpelledRule::Source { port, form } => has_port(ports, port, Output, source_kind(form)),
-        SpelledRule::Relay {
-            input,
-            output,
-            form,
-        } => {
-            has_port(ports, input, Input, input_kind(form))
-                && has_port(ports, output, Output, output_kind(form))
+        Rule::EmitAt { port, .. } | Rule::EmitEvery { port, .. } => has_output(ports, port, Events),
+        Rule::SetValue { port, .. } | Rule::Ramp { port, .. } => has_output(ports, port, Values),
+        Rule::Say { port, .. } => has_output(ports, port, Messages),
+        Rule::Pass { input, output, .. } => {
+            has_input(ports, input, Events) && has_output(ports, output, Events)
+        }
+        Rule::CopyValues { input, output, .. } => {
+            has_input(ports, input, Values) && has_output(ports, output, Values)
+        }
+        Rule::When { input, output, .. } => {
+            has_input(ports, input, Values) && has_output(ports, output, Events)
+        }
+        Rule::Reply { input, output, .. } => {
+            has_input(ports, input, Messages) && has_output(ports, output, Messages)
         }
     }
 }
 
 /// Whether some rank of the port of this name maps the index.
 #[tactic(auto, unfolding(scene_model::specs::Rules::is_mapped), using(crate::proofs::Named::named))]
-fn is_mapped(ports: &[PortDecl], name: &[u8], index: u32) -> bool
+fn is_mapped(ports: &[PortDecl], name: &Name, index: u32) -> bool
     ensures { result ≡ is_mapped ports.now name.now index }
 {
-    match port_named(ports, name) {
+    match port_named(ports, name.as_slice()) {
         Some(port) => port.map.maps(index),
         None => false,
     }
 }
 
 /// Whether each index that the rule states is mapped by its port.
-fn indices_stand(ports: &[PortDecl], rule: &SpelledRule<'_>) -> bool
-    ensures { result ≡ indices_stand ports.now (rule_of rule.now) }
+fn indices_stand(ports: &[PortDecl], rule: &Rule) -> bool
+    ensures { result ≡ indices_stand ports.now rule.now }
 {
-    match *rule {
-        SpelledRule::Source { port, form } => match form {
-            Source::EmitAt { index, .. }
-            | Source::EmitEvery { index, .. }
-            | Source::SetValue { index, .. }
-            | Source::Ramp { index, .. } => is_mapped(ports, port, index),
-            Source::Say { .. } => true,
-        },
-        SpelledRule::Relay {
+    match rule {
+        Rule::EmitAt { port, index, .. }
+        | Rule::EmitEvery { port, index, .. }
+        | Rule::SetValue { port, index, .. }
+        | Rule::Ramp { port, index, .. } => is_mapped(ports, port, *index),
+        Rule::When {
             input,
+            index,
             output,
-            form: Relay::When { index, emitted, .. },
-        } => is_mapped(ports, input, index) && is_mapped(ports, output, emitted),
-        SpelledRule::Relay { .. } => true,
+            emitted,
+            ..
+        } => is_mapped(ports, input, *index) && is_mapped(ports, output, *emitted),
+        _ => true,
     }
 }
 
 /// Whether the rule passes on less than a tick after a step begins.
-fn after_fits(tick: u64, rule: &SpelledRule<'_>) -> bool
-    ensures { result ≡ after_fits tick (rule_of rule.now) }
+fn after_fits(tick: u64, rule: &Rule) -> bool
+    ensures { result ≡ after_fits tick rule.now }
 {
-    match *rule {
-        SpelledRule::Relay {
-            form: Relay::Pass { after, .. } | Relay::Reply { after },
-            ..
-        } => after < tick,
+    match rule {
+        Rule::Pass { after, .. } | Rule::Reply { after, .. } => after.0 < tick,
         _ => true,
     }
 }
 
 /// Whether a run that lasts so long, in ns, holds the period, and not too often.
 #[tactic(auto, unfolding(scene_model::specs::Rules::is_rate))]
-fn is_rate(lasts: u128, every: u64) -> bool
+fn is_rate(lasts: u128, every: Nanos) -> bool
     ensures { result ≡ is_rate lasts every }
 {
-    1 <= every && lasts / u128::from(every) <= MOST_PERIODS
+    1 <= every.0 && lasts / u128::from(every.0) <= MOST_PERIODS
 }
 
-fn rate_fits(lasts: u128, rule: &SpelledRule<'_>) -> bool
-    ensures { result ≡ rate_fits lasts (rule_of rule.now) }
+fn rate_fits(lasts: u128, rule: &Rule) -> bool
+    ensures { result ≡ rate_fits lasts rule.now }
 {
-    match *rule {
-        SpelledRule::Source {
-            form: Source::EmitEvery { every, .. } | Source::Say { every, .. },
-            ..
-        } => is_rate(lasts, every),
+    match rule {
+        Rule::EmitEvery { every, .. } | Rule::Say { every, .. } => is_rate(lasts, *every),
         _ => true,
     }
 }
 
-/// The first fault of a spelled rule at its place, in an application of these ports and this tick that runs for
+/// The first fault of a rule at its place, in an application of these ports and this tick that runs for
 /// `lasts` ns.
 #[tactic(auto, unfolding(crate::specs::Rules::fault_of))]
 pub fn fault_of(
@@ -167,10 +141,9 @@ pub fn fault_of(
     tick: u64,
     lasts: u128,
     place: u32,
-    rule: &SpelledRule<'_>,
+    rule: &Rule,
 ) -> Option<RuleFault>
-    requires { is_spellable (rule_of rule.now) ≡ true }
-    ensures { result ≡ fault_of ports.now tick lasts place (rule_of rule.now) }
+    ensures { result ≡ fault_of ports.now tick lasts place rule.now }
 {
     if !ports_stand(ports, rule) {
         return Some(RuleFault::RulePort { place });

@@ -1,9 +1,10 @@
 //! What the words of a rule spell, one after the other. Each function takes its words from the front, and lends what is
 //! left behind them.
-ghost use Rattle.std.specs.Prelude.{◌≡◌, option_copied, option_map};
+ghost use Rattle.std.specs.Prelude.{◌≡◌, true, option_copied, option_map, IfSome};
 ghost use Rattle.std.specs.List.{list_all};
-ghost use Rattle.music_base.specs.Names.{is_in_words, is_word};
+ghost use Rattle.music_base.specs.Names.{is_in_words, is_name, is_word};
 ghost use Rattle.text_words.specs.Words.{words};
+ghost use Rattle.text_words.specs.OneWord.{name_in};
 ghost use Rattle.text_words.specs.Numbers.{fixed};
 ghost use Rattle.app_scripts.specs.Forms.{
   after,
@@ -14,18 +15,16 @@ ghost use Rattle.app_scripts.specs.Forms.{
   last_time_after,
   message_word,
   name_after,
-  name_word,
   only,
   scale_after,
   scale_word,
   shift_after,
   shift_word,
   time_after,
-  time_word,
 };
 
-use music_base::{count_up_to, is_name, read_time};
-use text_words::{around, fixed, is_key, signed_within, split_word};
+use music_base::{Nanos, Sample, count_up_to};
+use text_words::{around, fixed, is_key, name_in, signed_within, split_word, time_in};
 
 /// How far from zero the shift of an index may lie.
 const GREATEST_SHIFT: u32 = 65_535;
@@ -39,28 +38,11 @@ const GREATEST_DENOMINATOR: u32 = 1_000_000;
 /// The greatest global index.
 const GREATEST_INDEX: u32 = 65_535;
 
-#[tactic(auto, unfolding(crate::specs::Forms::name_word))]
-fn name_word(word: &[u8]) -> Option<&[u8]>
-    ensures { option_copied result ≡ name_word word.now }
-{
-    if is_name(word) { Some(word) } else { None }
-}
-
 #[tactic(auto, unfolding(crate::specs::Forms::index_word))]
 fn index_word(word: &[u8]) -> Option<u32>
     ensures { result ≡ index_word word.now }
 {
     count_up_to(GREATEST_INDEX, word)
-}
-
-#[tactic(auto, unfolding(crate::specs::Forms::time_word))]
-fn time_word(word: &[u8]) -> Option<u64>
-    ensures { result ≡ time_word word.now }
-{
-    match read_time(word) {
-        Ok(time) => Some(time.0),
-        Err(_) => None,
-    }
 }
 
 #[tactic(auto, unfolding(crate::specs::Forms::shift_word))]
@@ -131,14 +113,21 @@ fn only(text: &[u8]) -> Option<&[u8]>
     }
 }
 
+pub fn name_first(text: &[u8]) -> Option<(&[u8], &[u8])>
+    ensures name { option_map (λ p. (p.0.now, words p.1.now)) result ≡ first name_in (words text.now) }
+    ensures is { IfSome result (λ p. is_name p.0.now ≡ true) }
+{
+    let (word, rest) = split_word(text)?;
+    let name = name_in(word)?;
+    Some((name, rest))
+}
+
 #[tactic(auto, unfolding(crate::specs::Forms::name_after))]
 pub fn name_after<'a>(key: &[u8], text: &'a [u8]) -> Option<(&'a [u8], &'a [u8])>
-    ensures { option_map (λ p. (p.0.now, words p.1.now)) result ≡ name_after key.now (words text.now) }
+    ensures name { option_map (λ p. (p.0.now, words p.1.now)) result ≡ name_after key.now (words text.now) }
+    ensures is { IfSome result (λ p. is_name p.0.now ≡ true) }
 {
-    let rest = after(key, text)?;
-    let (word, rest) = split_word(rest)?;
-    let name = name_word(word)?;
-    Some((name, rest))
+    name_first(after(key, text)?)
 }
 
 pub fn index_first(text: &[u8]) -> Option<(u32, &[u8])>
@@ -163,8 +152,8 @@ pub fn time_after<'a>(key: &[u8], text: &'a [u8]) -> Option<(u64, &'a [u8])>
 {
     let rest = after(key, text)?;
     let (word, rest) = split_word(rest)?;
-    let time = time_word(word)?;
-    Some((time, rest))
+    let time = time_in(word)?;
+    Some((time.0, rest))
 }
 
 #[tactic(auto, unfolding(crate::specs::Forms::fixed_after))]
@@ -197,34 +186,29 @@ pub fn scale_after<'a>(key: &[u8], text: &'a [u8]) -> Option<((i32, u32), &'a [u
     Some((scale, rest))
 }
 
-pub fn last_fixed(text: &[u8]) -> Option<i64>
+pub fn last_fixed(text: &[u8]) -> Option<Sample>
     ensures { result ≡ only fixed (words text.now) }
 {
-    let word = only(text)?;
-    fixed(word)
+    let value = fixed(only(text)?)?;
+    Some(Sample(value))
 }
 
 pub fn last_index(text: &[u8]) -> Option<u32>
     ensures { result ≡ only index_word (words text.now) }
 {
-    let word = only(text)?;
-    index_word(word)
+    index_word(only(text)?)
 }
 
 #[tactic(auto, unfolding(crate::specs::Forms::last_time_after))]
-pub fn last_time_after(key: &[u8], text: &[u8]) -> Option<u64>
+pub fn last_time_after(key: &[u8], text: &[u8]) -> Option<Nanos>
     ensures { result ≡ last_time_after key.now (words text.now) }
 {
-    let rest = after(key, text)?;
-    let word = only(rest)?;
-    time_word(word)
+    time_in(only(after(key, text)?)?)
 }
 
 #[tactic(auto, unfolding(crate::specs::Forms::last_fixed_after))]
-pub fn last_fixed_after(key: &[u8], text: &[u8]) -> Option<i64>
+pub fn last_fixed_after(key: &[u8], text: &[u8]) -> Option<Sample>
     ensures { result ≡ last_fixed_after key.now (words text.now) }
 {
-    let rest = after(key, text)?;
-    let word = only(rest)?;
-    fixed(word)
+    last_fixed(after(key, text)?)
 }

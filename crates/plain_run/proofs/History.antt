@@ -1,5 +1,5 @@
 -- The history of the first form's scene.
-use Rattle.std.proofs.Common.{◌≡◌, ℕ, zero, suc, ◌+◌, ◌*◌, true, List, [], ◌∷◌, map, refl, ap, ◌∙◌, arith}
+use Rattle.std.proofs.Common.{◌≡◌, ℕ, zero, suc, ◌+◌, ◌-◌, ◌*◌, true, List, [], ◌∷◌, map, refl, ap, ◌∙◌, arith}
 use Rattle.std.proofs.lemmas.List.{append-nil}
 use Rattle.std.proofs.lemmas.Slice.Eq.{bytes_eq-Decides}
 use Rattle.music_base.specs.Clocks.{steps_until}
@@ -8,7 +8,7 @@ use Rattle.music_base.specs.declared.item.Item.{Item}
 use Rattle.music_base.proofs.Lists.{map-agree}
 use Rattle.plain_run.specs.declared.form.FirstForm.{FirstForm}
 use Rattle.scene_model.specs.declared.scene.Scene.{Scene}
-use Rattle.scene_model.specs.Clocks.{tick, steps}
+use Rattle.scene_model.specs.Clocks.{start, tick, steps}
 use Rattle.scene_model.specs.Tables.{Table, StepOutput}
 use Rattle.scene_model.specs.Turns.{times_between, event, same_name, turn}
 use Rattle.scene_model.specs.Lives.{step_output, life, again, no_steps, after_turns, all_steps, history}
@@ -26,17 +26,18 @@ sink_steps form = steps_until form.stop form.to_tick
 
 pub steps-source : (form : FirstForm) → steps (scene_of form) 0 ≡ source_steps form
 unfolding steps tick scene_of source steps_until
-steps-source form = refl
+steps-source form = let whole : form.stop - 0 ≡ form.stop = omega arith in rw whole refl
 
 pub steps-sink : (form : FirstForm) → steps (scene_of form) 1 ≡ sink_steps form
 unfolding steps tick scene_of sink steps_until
-steps-sink form = refl
+steps-sink form = let whole : form.stop - 0 ≡ form.stop = omega arith in rw whole refl
 
 source_output : (form : FirstForm) (table : Table) (k : ℕ) → step_output (scene_of form) table 0 k ≡ emission form k ∷ []
-unfolding step_output turn tick scene_of source event_port
+unfolding step_output turn start tick scene_of source event_port
 source_output form table k =
     let same : same_name form.from_port form.from_port ≡ true = (bytes_eq-Decides form.from_port form.from_port).1 refl in
-    rw (same, append-nil) refl
+    let front : 0 + k * form.from_tick ≡ k * form.from_tick = omega arith in
+    rw (same, append-nil, front) refl
 
 sink_output : (form : FirstForm) (table : Table) (k : ℕ) → step_output (scene_of form) table 1 k ≡ [] ∷ []
 unfolding step_output turn tick scene_of sink event_port

@@ -10,7 +10,8 @@ use Rattle.text_words.proofs.Results.{IfOk-bind, IfOk-given}
 use Rattle.text_words.specs.InTurn.{◌>>=◌}
 use Rattle.music_base.specs.Names.{is_name}
 use Rattle.music_base.specs.Times.{greatest_time}
-use Rattle.plain_run.specs.FormWords.{cut_at, behind, name_in, time_in, name_before, time_behind}
+use Rattle.text_words.specs.OneWord.{behind, name_in, time_in}
+use Rattle.plain_run.specs.FormWords.{split_once, name_before, time_behind}
 use Rattle.plain_run.specs.FormLines.{most_indices, greatest_index, PortLine, RuleLine, LinkLine, section_line, other_section_line, stop_line, is_tick, tick_line, span_in, port_line, emit_times, maps, is_period, rule_in, rule_fits, rule_line, end_in, width_in, link_line, link_fits, width_line}
 use Rattle.plain_run.specs.FirstForm.{SourceLines, SinkLines, next_line, says, exactly, process_lines, source_lines, sink_lines, no_line, last_line, form_of}
 use Rattle.plain_run.specs.LawfulForm.{IsTick, IsPeriod, IsSpan, IsMapped, IsNamed, IsLawfulForm}
@@ -26,7 +27,7 @@ time_behind-is front text =
 name_before-is : (byte : ℕ) (text : List ℕ) → IfSome (name_before byte text) (λ parts. is_name parts.0 ≡ true)
 unfolding name_before
 name_before-is byte text =
-    IfSome-after _ _ (cut_at byte text) (λ parts.
+    IfSome-after _ _ (split_once byte text) (λ parts.
     IfSome-bind (λ name. is_name name ≡ true) _ _ (name_in parts.0) (IfSome-when _ parts.0 (is_name parts.0) (λ is. is)) (λ name is. is))
 
 -- ---- lines
@@ -62,7 +63,7 @@ tick_line-is stop line =
 span_in-is : (text : List ℕ) → IfSome (span_in text) (λ span. IsSpan span.0 span.1)
 unfolding span_in
 span_in-is text =
-    IfSome-after _ _ (cut_at (byte "+") text) (λ parts.
+    IfSome-after _ _ (split_once (byte "+") text) (λ parts.
     IfSome-after (λ span. IsSpan span.0 span.1) _ (count_up_to most_indices parts.0) (λ base.
     IfSome-after (λ span. IsSpan span.0 span.1) _ (count_up_to most_indices parts.1) (λ size.
     let span : ℕ × ℕ = (base, size) in IfSome-when (λ span. IsSpan span.0 span.1) span (nat_le (base + size) most_indices) (leb-true (base + size) most_indices))))
@@ -87,14 +88,14 @@ emit_times-is : (text : List ℕ) → IfSome (emit_times text) (λ times. times.
 unfolding emit_times
 emit_times-is text =
     IfSome-after _ _ (behind (codes "every ") text) (λ text.
-    IfSome-after _ _ (cut_at (byte " ") text) (λ words.
+    IfSome-after _ _ (split_once (byte " ") text) (λ words.
     IfSome-after _ _ (time_in words.0) (λ every.
     IfSome-bind _ _ _ (time_behind (codes "from ") words.1) (time_behind-is (codes "from ") words.1) (λ first is. is))))
 
 rule_in-is : (text : List ℕ) → IfSome (rule_in text) (λ rule. rule.first ≤ greatest_time)
 unfolding rule_in
 rule_in-is text =
-    IfSome-after _ _ (cut_at (byte " ") text) (λ words.
+    IfSome-after _ _ (split_once (byte " ") text) (λ words.
     IfSome-after (λ rule. rule.first ≤ greatest_time) _ (count_up_to greatest_index words.0) (λ index.
     IfSome-bind (λ times. times.1 ≤ greatest_time) (λ rule. rule.first ≤ greatest_time) _ (emit_times words.1) (emit_times-is words.1) (λ times is. is)))
 
@@ -123,7 +124,7 @@ width_in-is : (text : List ℕ) → IfSome (width_in text) (λ width. width ≤ 
 unfolding width_in
 width_in-is text =
     IfSome-after _ _ (behind (codes "[") text) (λ inner.
-    IfSome-after _ _ (cut_at (byte "]") inner) (λ parts.
+    IfSome-after _ _ (split_once (byte "]") inner) (λ parts.
     IfSome-bind (λ width. nat_le width most_indices ≡ true) (λ width. width ≤ most_indices) _ (count_up_to most_indices parts.0) (count_up_to-is most_indices parts.0) (λ width within.
     IfSome-when (λ width. width ≤ most_indices) width (nat_eq (length parts.1) 0 && nat_le 1 width) (λ _. leb-true width most_indices within))))
 

@@ -1,5 +1,5 @@
 -- The rows of the first form's history.
-use Rattle.std.proofs.Common.{◌≡◌, ℕ, ◌+◌, ◌-◌, ◌*◌, ◌<◌, ◌≤◌, Bool, true, false, ◌&&◌, nat_eq, nat_lt, List, [], ◌∷◌, ◌++◌, length, map, refl, sym, ap, ◌∙◌, inl, inr, arith}
+use Rattle.std.proofs.Common.{◌≡◌, ℕ, ◌+◌, ◌-◌, ◌*◌, ◌<◌, ◌≤◌, Bool, true, false, ◌&&◌, nat_eq, nat_lt, List, [], ◌∷◌, ◌++◌, length, map, refl, sym, ap, ◌∙◌, inl, inr, arith, Some}
 use Rattle.std.specs.List.{filter, flat_map, range_with_len}
 use Rattle.std.specs.Ordering.{is_gt, ordering_then, nat_cmp}
 use Rattle.std.specs.declared.cmp.Ordering.{Ordering}
@@ -9,7 +9,7 @@ use Rattle.std.proofs.lemmas.List.Elements.{filter_agree}
 use Rattle.std.proofs.lemmas.List.Folds.{flat_map-map}
 use Rattle.std.proofs.lemmas.List.FromFn.{get_or-map-range_with_len}
 use Rattle.std.proofs.Math.Nat.{le-div_iff_mul-le, div-mul-le_self, mul-le-mul_right}
-use Rattle.music_base.specs.Clocks.{due_step}
+use Rattle.music_base.specs.Clocks.{due_step, due_step_from}
 use Rattle.music_base.specs.Numbers.{below, in_order}
 use Rattle.music_base.specs.declared.item.Item.{Item}
 use Rattle.music_base.proofs.Lists.{map-map, map-filter_agree, map-flat_map, filter-map, filter-filter, flat_map-none, flat_map-map_filter, flat_map-filter_single, flat_map-agree_within}
@@ -17,7 +17,7 @@ use Rattle.music_base.proofs.Ordered.{Pairwise, Pairwise-weaker, Pairwise-filter
 use Rattle.index_maps.specs.Maps.{maps_index}
 use Rattle.plain_run.specs.declared.form.FirstForm.{FirstForm}
 use Rattle.scene_model.specs.Scenes.{sender, receiver, input_of, links_to}
-use Rattle.scene_model.specs.Clocks.{tick, steps, latency, due}
+use Rattle.scene_model.specs.Clocks.{start, tick, steps, latency, due}
 use Rattle.scene_model.specs.Tables.{Sent, sent_cmp, arrives, block_on, coming, arrivals}
 use Rattle.scene_model.specs.Turns.{times_between, event}
 use Rattle.scene_model.specs.Lives.{history}
@@ -58,9 +58,11 @@ maps_events-is : (form : FirstForm) → maps_index (input_of (scene_of form) 0).
 unfolding receiver scene_of sink event_port maps_events
 maps_events-is form = maps_index-one_span form.to_base form.to_size form.index
 
-due-is : (form : FirstForm) (time : ℕ) → due (scene_of form) 0 time ≡ sink_step form time
-unfolding due latency tick receiver scene_of sink event_port sink_step due_step
-due-is form time = refl
+due-is : (form : FirstForm) (time : ℕ) → due (scene_of form) 0 time ≡ Some (sink_step form time)
+unfolding due due_step_from latency start tick receiver scene_of sink event_port sink_step due_step
+due-is form time =
+    let whole : time + 0 - 0 ≡ time + 0 = omega arith in
+    rw (le-ltb (time + 0) 0 (omega arith), whole) refl
 
 arrives-is : (form : FirstForm) (j time : ℕ) → arrives (scene_of form) 0 j (event form.index time) ≡ comes form j time
 arrives-is form j time = rw (due-is form time, maps_events-is form) refl
@@ -131,8 +133,8 @@ one_place form j time h =
 
 rank_rows-are : (form : FirstForm) (j : ℕ) → step_rows (scene_of form) (table_of form) 1 j
     ≡ map (λ item. record { clock = j * form.to_tick; app = 1; port = 0; rank = 0; item = item }) (flat_map (arrived_at (range_with_len form.to_base form.to_size)) (arrivals (scene_of form) (table_of form) 1 0 j))
-unfolding step_rows scene_of sink event_port tick
-rank_rows-are form j = append-nil _ ∙ append-nil _
+unfolding step_rows scene_of sink event_port start tick
+rank_rows-are form j = let front : 0 + j * form.to_tick ≡ j * form.to_tick = omega arith in rw front (append-nil _ ∙ append-nil _)
 
 step_rows-are : (form : FirstForm) (j : ℕ) → 1 ≤ form.every → step_rows (scene_of form) (table_of form) 1 j ≡ map (row_of form) (filter (comes form j) (event_times form))
 unfolding row_of

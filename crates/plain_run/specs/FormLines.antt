@@ -4,7 +4,8 @@ use Rattle.std.specs.Str.{byte}
 use Rattle.music_base.specs.Clocks.{steps_until}
 use Rattle.music_base.specs.Counts.{count_up_to}
 use Rattle.text_words.specs.Options.{◌>>=◌, ◌when◌}
-use Rattle.plain_run.specs.FormWords.{cut_at, behind, time_in, name_before, time_behind}
+use Rattle.text_words.specs.OneWord.{behind, time_in}
+use Rattle.plain_run.specs.FormWords.{split_once, name_before, time_behind}
 
 -- ---- limits
 
@@ -66,7 +67,7 @@ pub record PortLine : Type 0 where
 -- B+N, as base and size
 unfoldable pub span_in : List ℕ → Option (ℕ × ℕ)
 span_in text = do
-  parts ← cut_at (byte "+") text
+  parts ← split_once (byte "+") text
   base ← count_up_to most_indices parts.0
   size ← count_up_to most_indices parts.1
   (base, size) when nat_le (base + size) most_indices
@@ -85,7 +86,7 @@ port_line front line = do
 unfoldable pub emit_times : List ℕ → Option (ℕ × ℕ)
 emit_times text = do
   text ← behind (codes "every ") text
-  words ← cut_at (byte " ") text
+  words ← split_once (byte " ") text
   every ← time_in words.0
   first ← time_behind (codes "from ") words.1
   Some (every, first)
@@ -111,7 +112,7 @@ pub record RuleLine : Type 0 where
 -- INDEX every TIME from TIME
 unfoldable pub rule_in : List ℕ → Option RuleLine
 rule_in text = do
-  words ← cut_at (byte " ") text
+  words ← split_once (byte " ") text
   index ← count_up_to greatest_index words.0
   times ← emit_times words.1
   Some (record { index = index; every = times.0; first = times.1 })
@@ -149,7 +150,7 @@ end_in text = do
 unfoldable pub width_in : List ℕ → Option ℕ
 width_in text = do
   inner ← behind (codes "[") text
-  parts ← cut_at (byte "]") inner
+  parts ← split_once (byte "]") inner
   width ← count_up_to most_indices parts.0
   width when (nat_eq (length parts.1) 0 && nat_le 1 width)
 

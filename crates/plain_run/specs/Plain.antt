@@ -38,6 +38,8 @@ unfoldable pub source : FirstForm → AppDecl
 source form = record {
   name = form.from;
   np = 1;
+  start = 0;
+  stop = form.stop;
   tick = form.from_tick;
   ports = event_port Output form.from_port form.from_base form.from_size ∷ [];
   rules = EmitEvery form.from_port form.index form.every form.first ∷ [];
@@ -48,6 +50,8 @@ unfoldable pub sink : FirstForm → AppDecl
 sink form = record {
   name = form.to;
   np = 1;
+  start = 0;
+  stop = form.stop;
   tick = form.to_tick;
   ports = event_port Input form.to_port form.to_base form.to_size ∷ [];
   rules = [];
@@ -59,7 +63,7 @@ unfoldable pub scene_of : FirstForm → Scene
 scene_of form = record {
   stop = form.stop;
   apps = source form ∷ sink form ∷ [];
-  links = record { from_app = 0; from_port = 0; to_app = 1; to_port = 0; width = Some form.width } ∷ [];
+  links = record { from_app = 0; from_port = 0; to_app = 1; to_port = 0; width = Some form.width; latency = None; buffered = None } ∷ [];
 }
 
 -- ---- the events

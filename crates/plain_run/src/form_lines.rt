@@ -4,8 +4,9 @@ ghost use Rattle.std.specs.Prelude.{◌≡◌, ◌≤◌, option_map};
 ghost use Rattle.plain_run.specs.FormLines.{section_line, other_section_line, stop_line, is_tick, tick_line, span_in, port_line, emit_times, maps, is_period, rule_in, rule_fits, rule_line, end_in, width_in, link_line, covers, link_fits, width_line};
 ghost use Rattle.plain_run.specs.FormViews.{seen_port, seen_rule, seen_link};
 
-use crate::form_words::{behind, cut_at, name_before, time_behind, time_in};
+use crate::form_words::{name_before, split_once, time_behind};
 use music_base::{Nanos, count_up_to, steps_of};
+use text_words::{behind, time_in};
 
 /// The longest tick, in nanoseconds.
 const LONGEST_TICK: u64 = 1_000_000_000_000;
@@ -79,7 +80,7 @@ pub struct PortPart<'a> {
 fn span_in(text: &[u8]) -> Option<(u32, u32)>
     ensures { result ≡ span_in text.now }
 {
-    let (first, second) = cut_at(b'+', text)?;
+    let (first, second) = split_once(b'+', text)?;
     let base = count_up_to(MOST_INDICES, first)?;
     let size = count_up_to(MOST_INDICES, second)?;
     if base + size <= MOST_INDICES {
@@ -106,7 +107,7 @@ fn emit_times(text: &[u8]) -> Option<(Nanos, Nanos)>
     ensures { result ≡ emit_times text.now }
 {
     let text = behind(b"every ", text)?;
-    let (word, rest) = cut_at(b' ', text)?;
+    let (word, rest) = split_once(b' ', text)?;
     let every = time_in(word)?;
     let first = time_behind(b"from ", rest)?;
     Some((every, first))
@@ -143,7 +144,7 @@ pub struct RulePart {
 fn rule_in(text: &[u8]) -> Option<RulePart>
     ensures { option_map seen_rule result ≡ rule_in text.now }
 {
-    let (word, rest) = cut_at(b' ', text)?;
+    let (word, rest) = split_once(b' ', text)?;
     let index = count_up_to(MOST_INDICES - 1, word)?;
     let (every, first) = emit_times(rest)?;
     Some(RulePart {
@@ -203,7 +204,7 @@ fn width_in(text: &[u8]) -> Option<u32>
     ensures { result ≡ width_in text.now }
 {
     let inner = behind(b"[", text)?;
-    let (word, rest) = cut_at(b']', inner)?;
+    let (word, rest) = split_once(b']', inner)?;
     let width = count_up_to(MOST_INDICES, word)?;
     if rest.is_empty() && 1 <= width {
         Some(width)

@@ -84,6 +84,8 @@ fn source(alloc: Global, form: &FirstForm) -> Result<AppDecl, NoMemory>
     Ok(AppDecl {
         name,
         np: 1,
+        start: Nanos(0),
+        stop: form.stop,
         tick: form.from_tick,
         ports,
         rules,
@@ -100,6 +102,8 @@ fn sink(alloc: Global, form: &FirstForm) -> Result<AppDecl, NoMemory>
     Ok(AppDecl {
         name,
         np: 1,
+        start: Nanos(0),
+        stop: form.stop,
         tick: form.to_tick,
         ports,
         rules: Items::new(alloc),
@@ -125,6 +129,8 @@ pub fn scene_of(alloc: Global, form: &FirstForm) -> Result<Scene, NoMemory>
         to_app: SINK,
         to_port: PORT,
         width: Some(form.width),
+        latency: None,
+        buffered: None,
     })?;
     Ok(Scene {
         stop: form.stop,

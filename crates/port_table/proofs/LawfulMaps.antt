@@ -1,5 +1,5 @@
 -- A map that a word spells maps global indices, and at no rank one twice where no list repeats one.
-use Rattle.std.proofs.Common.{◌≡◌, ℕ, zero, suc, ◌+◌, ◌-◌, ◌<◌, ◌≤◌, Bool, true, false, nat_eq, List, [], ◌∷◌, length, refl, ap, ◌∙◌, arith}
+use Rattle.std.proofs.Common.{◌≡◌, ℕ, zero, suc, ◌+◌, ◌-◌, ◌<◌, ◌≤◌, Bool, true, false, nat_eq, List, [], ◌∷◌, length, refl, ap, arith}
 use Rattle.std.specs.Prelude.{Option, Some, None, IfSome, option_map, nat_lt, nat_le, ◌==◌, slice_index_or, replicate, codes, if◌then◌else◌}
 use Rattle.std.specs.List.{AllByRecursion, list_all, list_any, range_with_len, before_first, after_first}
 use Rattle.std.specs.Option.{option_or}
@@ -18,14 +18,15 @@ use Rattle.index_maps.proofs.Splits.{split_at_rises, split_at_ends}
 use Rattle.music_base.specs.Counts.{count_up_to}
 use Rattle.text_words.specs.Options.{each, first_some}
 use Rattle.text_words.specs.Parts.{is_byte, parts}
-use Rattle.text_words.proofs.Options.{IfSome-after, IfSome-each, IfSome-if, IfSome-map, IfSome-or, IfSome-when, count_up_to-is, length-each}
+use Rattle.text_words.specs.OneWord.{behind}
+use Rattle.text_words.proofs.Options.{IfSome-after, IfSome-bind, IfSome-each, IfSome-map, IfSome-or, IfSome-when, count_up_to-is}
 use Rattle.scene_model.specs.Limits.{greatest_index}
 use Rattle.scene_model.specs.Ports.{HasMessageMap, has_indices}
 use Rattle.scene_model.specs.declared.port.Direction.{Direction}
 use Rattle.scene_model.specs.declared.port.Direction.TheVariants.{Output, Input}
 use Rattle.scene_model.specs.declared.port.PortKind.TheVariants.{Messages}
 use Rattle.music_base.specs.Times.{plus}
-use Rattle.port_table.specs.MapWords.{behind, comma, index_list, map_in, map_repeat, message_map, one_index, rank_map, rank_maps, rank_repeat, slash, span_in, split_map, split_span}
+use Rattle.port_table.specs.MapWords.{comma, index_list, map_in, map_repeat, message_map, one_index, rank_map, rank_maps, rank_repeat, slash, span_in, split_map, split_span}
 
 -- ---- consecutive indices
 
@@ -92,18 +93,11 @@ pub record IsSpelled (np : ℕ) (map : PortMap) : Type 0 where
   pub ranks : rank_count map ≡ np
   pub within : IsWithin map
 
-both : {A : Type 0} (P Q : A → Type 0) (o : Option A) → IfSome o P → IfSome o Q → IfSome o (λ x. P x × Q x)
-both P Q None p q = tt
-both P Q (Some x) p q = (p, q)
-
 rank_maps_are : (np : ℕ) (word : List ℕ) → IfSome (rank_maps np word) (λ maps. IsSpelled np (Each maps))
 unfolding rank_maps
-rank_maps_are np word = IfSome-if (λ maps. IsSpelled np (Each maps)) (each rank_map (parts slash word)) (length (parts slash word) == np) (λ many.
-    IfSome-map-id (each rank_map (parts slash word)) (eqb-true _ _ many) (length-each rank_map (parts slash word)) (IfSome-each IsRankWithin rank_map rank_map_is (parts slash word)))
-  where
-    IfSome-map-id : (maps : Option (List IndexMap)) → length (parts slash word) ≡ np → IfSome maps (λ ms. length ms ≡ length (parts slash word)) → IfSome maps (AllByRecursion IsRankWithin) → IfSome maps (λ ms. IsSpelled np (Each ms))
-    IfSome-map-id None many as_many within = tt
-    IfSome-map-id (Some ms) many as_many within = record { ranks = as_many ∙ many; within = within }
+rank_maps_are np word =
+    IfSome-bind (AllByRecursion IsRankWithin) (λ maps. IsSpelled np (Each maps)) _ (each rank_map (parts slash word)) (IfSome-each IsRankWithin rank_map rank_map_is (parts slash word)) (λ maps within.
+    IfSome-when (λ maps. IsSpelled np (Each maps)) maps (length maps == np) (λ many. record { ranks = eqb-true _ _ many; within = within }))
 
 split_span_is : (word : List ℕ) → IfSome (split_span word) IsSpanWithin
 unfolding split_span

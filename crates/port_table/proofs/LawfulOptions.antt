@@ -6,11 +6,12 @@ use Rattle.std.proofs.lemmas.Bool.{leb-true}
 use Rattle.music_base.specs.Times.{greatest_time}
 use Rattle.music_base.proofs.TimeRange.{result_ok-time_value}
 use Rattle.music_base.specs.Counts.{count_up_to}
+use Rattle.text_words.specs.OneWord.{time_in}
 use Rattle.text_words.proofs.Options.{IfSome-bind, IfSome-if, IfSome-when, count_up_to-is}
 use Rattle.scene_model.specs.Limits.{most_buffered}
 use Rattle.scene_model.specs.declared.port.Direction.{Direction}
 use Rattle.scene_model.specs.declared.port.PortKind.{PortKind}
-use Rattle.port_table.specs.Options.{buffered_in, delay_in, flag_in, is_flag, latency_in, no_options, options_in, takes_delay, takes_latency, time_in, valued_in}
+use Rattle.port_table.specs.Options.{buffered_in, delay_in, flag_in, is_flag, latency_in, no_options, options_in, takes_delay, takes_latency, valued_in}
 use Rattle.port_table.specs.declared.options.Options.{Options}
 
 -- ---- what stands of options
@@ -27,7 +28,6 @@ module _ (direction : Direction) (kind : PortKind) where
   -- ---- one more
 
   time_is : (text : List ℕ) → IfSome (time_in text) (λ time. nat_le time greatest_time ≡ true)
-  unfolding time_in
   time_is text = result_ok-time_value text
 
   latency_is : (options : Options) (text : List ℕ) → AreOptions options → IfSome (latency_in direction kind options text) AreOptions

@@ -10,6 +10,7 @@ use Rattle.music_base.proofs.Lists.{All-push, all_differ-push}
 use Rattle.index_maps.specs.declared.map.PortMap.{PortMap}
 use Rattle.text_words.specs.InTurn.{unless}
 use Rattle.text_words.specs.Words.{declarations}
+use Rattle.text_words.specs.OneWord.{name_in}
 use Rattle.text_words.proofs.Options.{IfSome-after, IfSome-bind, IfSome-of, IfSome-when}
 use Rattle.text_words.proofs.Turns.{in_turn-keeps}
 use Rattle.scene_model.specs.Limits.{most_buffered, most_ports}
@@ -21,7 +22,7 @@ use Rattle.scene_model.specs.declared.port.PortKind.TheVariants.{Events, Values,
 use Rattle.scene_model.specs.declared.port.PortDecl.{PortDecl}
 use Rattle.port_table.specs.MapWords.{map_in, map_repeat}
 use Rattle.port_table.specs.Options.{no_options, options_in}
-use Rattle.port_table.specs.Ports.{beside, direction_in, fault_beside, is_beyond, kind_in, map_fault, map_part, name_in, port_beside, port_in, port_with, ports_of}
+use Rattle.port_table.specs.Ports.{beside, direction_in, fault_beside, heading_in, is_beyond, kind_in, map_fault, map_part, port_beside, port_in, port_with, ports_of}
 use Rattle.port_table.specs.declared.fault.PortFault.{PortFault}
 use Rattle.port_table.specs.declared.fault.PortFault.TheVariants.{PortText}
 use Rattle.port_table.specs.declared.options.Options.{Options}
@@ -62,18 +63,26 @@ port_with-is np name direction kind part options named mapped are = record {
   buffered = are.buffered;
 }
 
+-- a direction, a kind, a name, and the words after them
+abbrev Heading : Type 0
+Heading = Direction × PortKind × List ℕ × List (List ℕ)
+
+heading_in-is : (words : List (List ℕ)) → IfSome (heading_in words) (λ (h : Heading). is_name h.2 ≡ true)
+heading_in-is [] = tt
+heading_in-is (direction ∷ []) = tt
+heading_in-is (direction ∷ kind ∷ []) = tt
+heading_in-is (direction ∷ kind ∷ name ∷ words) =
+    IfSome-after (λ (h : Heading). is_name h.2 ≡ true) _ (direction_in direction) (λ direction.
+    IfSome-after (λ (h : Heading). is_name h.2 ≡ true) _ (kind_in kind) (λ kind.
+    IfSome-bind (λ name. is_name name ≡ true) (λ (h : Heading). is_name h.2 ≡ true) _ (name_in name) (IfSome-when (λ name. is_name name ≡ true) name (is_name name) (λ is. is)) (λ name named. named)))
+
 port_in-is : (np : ℕ) (words : List (List ℕ)) → 1 ≤ np → IfSome (port_in np words) (IsDeclared np)
 unfolding port_in
-port_in-is np [] some = tt
-port_in-is np (direction ∷ []) some = tt
-port_in-is np (direction ∷ kind ∷ []) some = tt
-port_in-is np (direction ∷ kind ∷ name ∷ words) some =
-    IfSome-after (IsDeclared np) _ (direction_in direction) (λ direction.
-    IfSome-after (IsDeclared np) _ (kind_in kind) (λ kind.
-    IfSome-bind (λ name. is_name name ≡ true) (IsDeclared np) _ (name_in name) (IfSome-when (λ name. is_name name ≡ true) name (is_name name) (λ is. is)) (λ name named.
-    IfSome-bind (HasMap np direction kind) (IsDeclared np) _ (map_part np direction kind words) (map_part-is np direction kind words some) (λ part mapped.
-    IfSome-bind AreOptions (IsDeclared np) _ (options_in direction kind no_options part.1) (options_in-are direction kind no_options part.1 none_are) (λ options are.
-    port_with-is np name direction kind part options named mapped are)))))
+port_in-is np words some =
+    IfSome-bind (λ (h : Heading). is_name h.2 ≡ true) (IsDeclared np) _ (heading_in words) (heading_in-is words) (λ (h : Heading) named.
+    IfSome-bind (HasMap np h.0 h.1) (IsDeclared np) _ (map_part np h.0 h.1 h.3) (map_part-is np h.0 h.1 h.3 some) (λ part mapped.
+    IfSome-bind AreOptions (IsDeclared np) _ (options_in h.0 h.1 no_options part.1) (options_in-are h.0 h.1 no_options part.1 none_are) (λ options are.
+    port_with-is np h.2 h.0 h.1 part options named mapped are)))
 
 -- ---- beside other ports
 

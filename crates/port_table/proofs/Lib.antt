@@ -1,7 +1,7 @@
-pub mod EachParts
-pub mod Faults
 pub mod LawfulMaps
 pub mod LawfulOptions
 pub mod LawfulPorts
+pub mod MessageMaps
 pub mod OptionSteps
+pub mod Places
 pub mod Repeating

@@ -1,5 +1,5 @@
 pub mod MapWords
 pub mod Options
 pub mod Ports
-pub mod Seen
 pub mod SmallTexts
+pub mod Stated

@@ -1,10 +1,11 @@
 -- A map, which is one word.
-use Rattle.std.specs.Prelude.{ℕ, ◌+◌, ◌-◌, ◌==◌, nat_le, if◌then◌else◌, List, ◌∷◌, length, replicate, drop, take, codes, bytes_eq, Option, None, option_map}
+use Rattle.std.specs.Prelude.{ℕ, ◌+◌, ◌-◌, ◌==◌, nat_le, if◌then◌else◌, List, ◌∷◌, length, replicate, codes, Option, None, option_map}
 use Rattle.std.specs.List.{list_any, before_first, after_first}
 use Rattle.std.specs.Option.{option_or}
 use Rattle.music_base.specs.Times.{plus}
 use Rattle.text_words.specs.Options.{◌>>=◌, ◌when◌, each, first_some}
 use Rattle.text_words.specs.Parts.{is_byte, parts}
+use Rattle.text_words.specs.OneWord.{behind}
 use Rattle.music_base.specs.Counts.{count_up_to}
 use Rattle.index_maps.specs.Indices.{Extent}
 use Rattle.index_maps.specs.Maps.{no_indices}
@@ -45,11 +46,7 @@ rank_map text = if list_any (is_byte plus) text then option_map (λ span. Linear
 
 -- as many rank maps as there are ranks, joined by '/'
 unfoldable pub rank_maps : ℕ → List ℕ → Option (List IndexMap)
-rank_maps np word = if length (parts slash word) == np then each rank_map (parts slash word) else None
-
--- what stands behind a front
-abbrev pub behind : List ℕ → List ℕ → Option (List ℕ)
-behind front text = drop (length front) text when bytes_eq (take (length front) text) front
+rank_maps np word = each rank_map (parts slash word) >>= λ maps. maps when length maps == np
 
 -- split:B+N: the span that is split
 unfoldable pub split_span : List ℕ → Option Extent
@@ -84,13 +81,3 @@ rank_repeat (Permutation list) = first_repeat list
 abbrev pub map_repeat : PortMap → Option ℕ
 map_repeat (Each maps) = first_some rank_repeat maps
 map_repeat (Split span ranks) = None
-
--- the same of a map that may not stand
-abbrev pub rank_repeat_in : Option IndexMap → Option ℕ
-rank_repeat_in map = map >>= rank_repeat
-
-abbrev pub first_repeat_in : Option (List IndexMap) → Option ℕ
-first_repeat_in maps = maps >>= first_some rank_repeat
-
-abbrev pub map_repeat_in : Option PortMap → Option ℕ
-map_repeat_in map = map >>= map_repeat

@@ -1,8 +1,7 @@
 -- The options of a declaration.
 use Rattle.std.specs.Prelude.{ℕ, Bool, true, false, ◌&&◌, ◌||◌, nat_le, if◌then◌else◌, List, [], ◌∷◌, codes, bytes_eq, Option, Some, None, is_none}
-use Rattle.std.specs.Result.{result_ok}
-use Rattle.music_base.specs.Times.{time_value}
 use Rattle.text_words.specs.Options.{◌>>=◌, ◌when◌}
+use Rattle.text_words.specs.OneWord.{time_in}
 use Rattle.music_base.specs.Counts.{count_up_to}
 use Rattle.scene_model.specs.Limits.{most_buffered}
 use Rattle.scene_model.specs.declared.port.Direction.{Direction}
@@ -29,10 +28,6 @@ abbrev pub no_options : Options
 no_options = record { latency = None; delay = None; interpolate = None; buffered = None }
 
 -- ---- one option, which has to be allowed and not to stand yet
-
--- a time, in ns
-unfoldable pub time_in : List ℕ → Option ℕ
-time_in text = result_ok (time_value text)
 
 abbrev pub latency_in : Direction → PortKind → Options → List ℕ → Option Options
 latency_in direction kind options text =

@@ -1,9 +1,9 @@
 -- What the value of `ports` declares, or its first fault.
 use Rattle.std.specs.Prelude.{◌≡◌, ⊤, ℕ, ◌+◌, Bool, true, ◌||◌, nat_le, if◌then◌else◌, List, [], ◌∷◌, length, codes, bytes_eq, Option, Some, None, unwrap_or, Result, Err}
 use Rattle.std.specs.List.{list_any}
-use Rattle.music_base.specs.Names.{is_name}
-use Rattle.text_words.specs.Options.{◌>>=◌, ◌when◌}
+use Rattle.text_words.specs.Options.{◌>>=◌}
 use Rattle.text_words.specs.Words.{declarations}
+use Rattle.text_words.specs.OneWord.{name_in}
 use Rattle.text_words.specs.InTurn.{in_turn, unless}
 use Rattle.index_maps.specs.declared.map.PortMap.{PortMap}
 use Rattle.scene_model.specs.Limits.{most_ports}
@@ -30,8 +30,14 @@ kind_in word =
     else if bytes_eq word (codes "cont") then Some Values
     else if bytes_eq word (codes "message") then Some Messages else None
 
-abbrev pub name_in : List ℕ → Option (List ℕ)
-name_in word = word when is_name word
+-- how a declaration begins: a direction, a kind and a name, and the words after these
+abbrev pub heading_in : List (List ℕ) → Option (Direction × PortKind × List ℕ × List (List ℕ))
+heading_in (direction ∷ kind ∷ name ∷ words) = do
+  direction ← direction_in direction
+  kind ← kind_in kind
+  name ← name_in name
+  Some (direction, kind, name, words)
+heading_in _ = None
 
 -- the map, and the words after it; a message port has none in its text
 abbrev pub map_part : ℕ → Direction → PortKind → List (List ℕ) → Option (PortMap × List (List ℕ))
@@ -52,16 +58,13 @@ port_with name direction kind map options = record {
   buffered = options.buffered;
 }
 
--- a direction, a kind, a name, a map, and options
+-- a heading, a map, and options
 unfoldable pub port_in : ℕ → List (List ℕ) → Option PortDecl
-port_in np (direction ∷ kind ∷ name ∷ words) = do
-  direction ← direction_in direction
-  kind ← kind_in kind
-  name ← name_in name
-  part ← map_part np direction kind words
-  options ← options_in direction kind no_options part.1
-  Some (port_with name direction kind part.0 options)
-port_in np _ = None
+port_in np words = do
+  heading ← heading_in words
+  part ← map_part np heading.0 heading.1 heading.3
+  options ← options_in heading.0 heading.1 no_options part.1
+  Some (port_with heading.2 heading.0 heading.1 part.0 options)
 
 -- ---- faults, in their order
 
@@ -75,11 +78,14 @@ map_fault place (Some index) _ = Some (MapRepeated place index)
 map_fault place None (Some index) = Some (OutputTwice place index)
 map_fault place None None = None
 
+abbrev pub fault_of_map : ℕ → Direction → PortMap → Option PortFault
+fault_of_map place direction map = map_fault place (map_repeat map) (output_twice direction map)
+
 -- the fault of a port at its place, beside the ports before it
 unfoldable pub fault_beside : List PortDecl → PortDecl → Option PortFault
 fault_beside before port =
     if is_beyond before port.name then Some (PortText (length before + 1))
-    else map_fault (length before + 1) (map_repeat port.map) (output_twice port.direction port.map)
+    else fault_of_map (length before + 1) port.direction port.map
 
 -- the port of a declaration without a fault, or the first fault of it
 abbrev pub beside : List PortDecl → Option PortDecl → Result PortDecl PortFault

@@ -1,10 +1,11 @@
 //! The ports that the value of `ports` declares.
 #![tactic(auto)]
 
+mod entries;
 mod fault;
 mod laws;
-mod map_reading;
-mod map_words;
+mod map_text;
+mod maps;
 mod options;
 mod port_text;
 mod reading;

@@ -2,17 +2,17 @@
 
 ghost use Rattle.std.specs.Prelude.{◌≡◌, ◌≤◌, ◌∷◌, length, IfSome, MatchOption, None};
 ghost use Rattle.text_words.specs.Words.{words};
-ghost use Rattle.port_table.specs.Options.{time_in, latency_in, delay_in, buffered_in, interpolate_in, flag_in, valued_in, is_flag, options_in, no_options, takes_latency, takes_delay};
+ghost use Rattle.port_table.specs.Options.{latency_in, delay_in, buffered_in, interpolate_in, flag_in, valued_in, is_flag, options_in, no_options, takes_latency, takes_delay};
 
-use music_base::{count_up_to, read_time};
+use music_base::{Nanos, count_up_to};
 use scene_model::{Direction, PortKind};
-use text_words::{is_key, split_word};
+use text_words::{is_key, split_word, time_in};
 
-/// The options that stand in a declaration. Times are in ns.
+/// The options that stand in a declaration.
 #[derive(Clone, Copy)]
 pub struct Options {
-    pub latency: Option<u64>,
-    pub delay: Option<u64>,
+    pub latency: Option<Nanos>,
+    pub delay: Option<Nanos>,
     pub interpolate: Option<bool>,
     pub buffered: Option<u64>,
 }
@@ -30,29 +30,16 @@ const NO_OPTIONS: Options = Options {
 fn takes_latency(direction: Direction, kind: PortKind) -> bool
     ensures { result ≡ takes_latency direction kind }
 {
-    match (direction, kind) {
-        (Direction::Input, PortKind::Events | PortKind::Messages) => true,
-        _ => false,
-    }
+    matches!(
+        (direction, kind),
+        (Direction::Input, PortKind::Events | PortKind::Messages)
+    )
 }
 
 fn takes_delay(direction: Direction, kind: PortKind) -> bool
     ensures { result ≡ takes_delay direction kind }
 {
-    match (direction, kind) {
-        (Direction::Input, PortKind::Values) => true,
-        _ => false,
-    }
-}
-
-#[tactic(auto, unfolding(crate::specs::Options::time_in))]
-fn time_in(text: &[u8]) -> Option<u64>
-    ensures { result ≡ time_in text.now }
-{
-    match read_time(text) {
-        Ok(time) => Some(time.0),
-        Err(_) => None,
-    }
+    matches!((direction, kind), (Direction::Input, PortKind::Values))
 }
 
 fn latency_in(

@@ -1,19 +1,20 @@
-ghost use Rattle.std.specs.Prelude.{◌≡◌, ◌<◌, ◌≤◌, true, length, is_some, bytes_eq, IfOk, IfErr, IfSome, OnOk, None, Ok, option_copied};
+ghost use Rattle.std.specs.Prelude.{◌≡◌, ◌<◌, ◌≤◌, true, length, bytes_eq, IfOk, IfErr, OnOk, None, Ok};
 ghost use Rattle.std.specs.List.{list_any};
-ghost use Rattle.index_maps.specs.Repeats.{IsRepeatOf};
+ghost use Rattle.text_words.specs.InTurn.{unless};
 ghost use Rattle.text_words.specs.Words.{words};
 ghost use Rattle.scene_model.specs.Limits.{most_ports, most_ranks};
 ghost use Rattle.scene_model.specs.Ports.{names_differ, output_twice};
-ghost use Rattle.port_table.specs.MapWords.{map_in, map_repeat};
-ghost use Rattle.port_table.specs.Ports.{IsFaultOf, is_beyond, port_beside, port_with, ports_of};
-ghost use Rattle.port_table.specs.Seen.{IsThatFault, fault_of_map, seen_map};
+ghost use Rattle.port_table.specs.Ports.{IsFaultOf, fault_of_map, is_beyond, port_beside, port_with, ports_of};
+ghost use Rattle.port_table.specs.Stated.{map_stated};
 
 use crate::PortFault;
-use crate::map_reading::{message_map, read_map};
-use crate::port_text::{PortParts, port_in};
+use crate::map_text::MapText;
+use crate::maps::port_map;
+use crate::options::{Options, options_in};
+use crate::port_text::{heading_in, map_part};
 use index_maps::{MapFault, PortMap};
 use music_base::{Items, Name, Nanos, NoMemory, Word};
-use scene_model::{Direction, PortDecl};
+use scene_model::{Direction, PortDecl, PortKind};
 use std::alloc::Global;
 use text_words::split_declaration;
 
@@ -32,20 +33,6 @@ fn is_beyond(before: &[PortDecl], name: &[u8]) -> bool
     before.len() >= MOST_PORTS || has_name(before, name)
 }
 
-/// The map of the port, in which no list has an index twice.
-fn map_of(alloc: Global, np: u32, parts: &PortParts<'_>) -> Result<PortMap, MapFault>
-    requires ranks { 1 ≤ np }
-    requires is_map { IfSome parts.now.map (λ word. is_some (map_in np word.now) ≡ true) }
-    ensures map { IfOk result (λ map. map ≡ seen_map np parts.now.direction (option_copied parts.now.map)) }
-    ensures once { IfOk result (λ map. map_repeat map ≡ None) }
-    ensures fault { IfErr result (IsRepeatOf (map_repeat (seen_map np parts.now.direction (option_copied parts.now.map)))) }
-{
-    match parts.map {
-        Some(word) => read_map(alloc, np, word),
-        None => Ok(message_map(alloc, np, parts.direction)?),
-    }
-}
-
 /// The least index that two ranks of an output map.
 fn output_twice(alloc: Global, direction: Direction, map: &PortMap) -> Result<Option<u32>, NoMemory>
     ensures { IfOk result (λ index. index ≡ output_twice direction map.now) }
@@ -56,48 +43,51 @@ fn output_twice(alloc: Global, direction: Direction, map: &PortMap) -> Result<Op
     }
 }
 
-/// The map of the port, which has no fault.
+/// The map that is stated, which has no fault.
 fn faultless_map(
     alloc: Global,
-    np: u32,
     place: u32,
-    parts: &PortParts<'_>,
+    direction: Direction,
+    text: MapText,
 ) -> Result<PortMap, PortFault>
-    requires ranks { 1 ≤ np }
-    requires is_map { IfSome parts.now.map (λ word. is_some (map_in np word.now) ≡ true) }
-    ensures map { IfOk result (λ map. map ≡ seen_map np parts.now.direction (option_copied parts.now.map)) }
-    ensures faultless { IfOk result (λ map. fault_of_map place parts.now.direction map ≡ None) }
-    ensures fault { IfErr result (IsThatFault (fault_of_map place parts.now.direction (seen_map np parts.now.direction (option_copied parts.now.map)))) }
+    ensures map { IfOk result (λ map. map ≡ map_stated text) }
+    ensures faultless { IfOk result (λ map. fault_of_map place direction map ≡ None) }
+    ensures fault { IfErr result (IsFaultOf (unless (fault_of_map place direction (map_stated text)) text)) }
 {
-    let map = match map_of(alloc, np, parts) {
+    let map = match port_map(alloc, text) {
         Ok(map) => map,
         Err(MapFault::Repeated { index }) => return Err(PortFault::MapRepeated { place, index }),
         Err(MapFault::Memory) => return Err(PortFault::Memory),
     };
-    match output_twice(alloc, parts.direction, &map)? {
+    match output_twice(alloc, direction, &map)? {
         Some(index) => Err(PortFault::OutputTwice { place, index }),
         None => Ok(map),
     }
 }
 
-fn port_with(name: Name, map: PortMap, parts: &PortParts<'_>) -> PortDecl
-    ensures { result ≡ port_with name parts.now.direction parts.now.kind map parts.now.options }
+fn port_with(
+    name: Name,
+    direction: Direction,
+    kind: PortKind,
+    map: PortMap,
+    options: Options,
+) -> PortDecl
+    ensures { result ≡ port_with name direction kind map options }
 {
-    let options = parts.options;
     PortDecl {
         name,
-        direction: parts.direction,
-        kind: parts.kind,
+        direction,
+        kind,
         map,
-        latency: Nanos(options.latency.unwrap_or(0)),
-        delay: Nanos(options.delay.unwrap_or(0)),
+        latency: options.latency.unwrap_or(Nanos(0)),
+        delay: options.delay.unwrap_or(Nanos(0)),
         interpolate: options.interpolate.unwrap_or(true),
         buffered: options.buffered,
     }
 }
 
 /// The port that a declaration gives beside the ports before it.
-#[tactic(auto, unfolding(crate::specs::Ports::port_beside, crate::specs::Ports::fault_beside))]
+#[tactic(auto, unfolding(crate::specs::Ports::port_beside, crate::specs::Ports::fault_beside, crate::specs::Ports::port_in))]
 fn read_port(
     alloc: Global,
     np: u32,
@@ -111,15 +101,22 @@ fn read_port(
     ensures fault { IfErr result (IsFaultOf (port_beside np before.now (words piece.now))) }
 {
     let place = before.len() as u32 + 1;
-    let Some(parts) = port_in(np, piece) else {
-        return Err(PortFault::PortText { place });
+    let faulty = PortFault::PortText { place };
+    let Some((direction, kind, name, rest)) = heading_in(piece) else {
+        return Err(faulty);
     };
-    if is_beyond(before, parts.name) {
-        return Err(PortFault::PortText { place });
+    let Some((map, rest)) = map_part(alloc, np, direction, kind, rest)? else {
+        return Err(faulty);
+    };
+    let Some(options) = options_in(direction, kind, rest) else {
+        return Err(faulty);
+    };
+    if is_beyond(before, name) {
+        return Err(faulty);
     }
-    let map = faultless_map(alloc, np, place, &parts)?;
-    let name = Name::from_slice(alloc, parts.name)?;
-    Ok(port_with(name, map, &parts))
+    let map = faultless_map(alloc, place, direction, map)?;
+    let name = Name::from_slice(alloc, name)?;
+    Ok(port_with(name, direction, kind, map, options))
 }
 
 /// The ports that the text declares, for an application of `np` processes.

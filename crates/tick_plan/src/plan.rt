@@ -30,11 +30,7 @@ pub struct Plan {
 fn which_stated(alloc: Global, stated: &[Option<u64>]) -> Result<Vec<bool>, NoMemory>
     ensures { IfOk result (λ which. which.items ≡ map is_some stated.now) }
 {
-    let mut which = Vec::new(alloc);
-    for limit in stated {
-        which.push(limit.is_some())?;
-    }
-    Ok(which)
+    Ok(stated.iter().map(|limit| limit.is_some()).collect(alloc)?)
 }
 
 /// The plan of a scene of which every cycle of waits under stated limits is covered. The waits that count are those at

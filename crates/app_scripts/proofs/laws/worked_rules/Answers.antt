@@ -5,13 +5,13 @@ use Rattle.music_base.specs.Times.{scaled, time_value}
 use Rattle.text_words.specs.Words.{words, declarations}
 use Rattle.music_base.specs.Counts.{count_up_to}
 use Rattle.text_words.specs.Numbers.{signed_within, millionths, fixed}
-use Rattle.app_scripts.specs.Forms.{name_word, index_word, time_word, shift_word, scale_word, message_word, name_after, time_after, fixed_after, shift_after, scale_after, last_time_after, last_fixed_after, emit_at, emit_every, pass, set_value, ramp, copy_values, when_over, say, reply, rule_in}
+use Rattle.app_scripts.specs.Forms.{index_word, shift_word, scale_word, message_word, name_after, time_after, fixed_after, shift_after, scale_after, last_time_after, last_fixed_after, emit_at, emit_every, pass, set_value, ramp, copy_values, when_over, say, reply, rule_in}
 use Rattle.scene_model.specs.Rules.{runs_for, has_port, is_mapped, is_rate}
 use Rattle.app_scripts.specs.Rules.{fault_of, rule_beside}
 use Rattle.app_scripts.proofs.laws.worked_rules.Goals as goal
 
 pub returns : goal.returns
-unfolding steps_until scaled time_value words declarations count_up_to signed_within millionths fixed name_word index_word time_word shift_word scale_word message_word name_after time_after fixed_after shift_after scale_after last_time_after last_fixed_after emit_at emit_every pass set_value ramp copy_values when_over say reply rule_in runs_for has_port is_mapped is_rate fault_of rule_beside
+unfolding steps_until scaled time_value words declarations count_up_to signed_within millionths fixed index_word shift_word scale_word message_word name_after time_after fixed_after shift_after scale_after last_time_after last_fixed_after emit_at emit_every pass set_value ramp copy_values when_over say reply rule_in runs_for has_port is_mapped is_rate fault_of rule_beside
 returns c = record {
   no_rules = refl;
   emit_at = refl;

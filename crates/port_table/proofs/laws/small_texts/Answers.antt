@@ -6,12 +6,12 @@ use Rattle.music_base.specs.Counts.{count_up_to}
 use Rattle.index_maps.specs.Intervals.{ranks_mapping, first_shared}
 use Rattle.index_maps.specs.Repeats.{first_repeat}
 use Rattle.port_table.specs.MapWords.{span_in, index_list, rank_map, rank_maps, split_span, map_in}
-use Rattle.port_table.specs.Options.{time_in, flag_in, valued_in}
+use Rattle.port_table.specs.Options.{flag_in, valued_in}
 use Rattle.port_table.specs.Ports.{port_in, fault_beside, port_beside}
 use Rattle.port_table.proofs.laws.small_texts.Goals as goal
 
 pub returns : goal.returns
-unfolding scaled time_value words declarations count_up_to ranks_mapping first_shared first_repeat span_in index_list rank_map rank_maps split_span map_in time_in flag_in valued_in port_in fault_beside port_beside
+unfolding scaled time_value words declarations count_up_to ranks_mapping first_shared first_repeat span_in index_list rank_map rank_maps split_span map_in flag_in valued_in port_in fault_beside port_beside
 returns c = record {
   output = refl;
   list = refl;
