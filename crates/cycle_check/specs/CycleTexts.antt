@@ -1,10 +1,10 @@
 -- The text of a cycle of waits.
-use Rattle.std.specs.Prelude.{ℕ, ◌+◌, ◌<◌, List, ◌++◌, codes}
+use Rattle.std.specs.Prelude.{ℕ, ◌+◌, ◌<◌, List, [], ◌++◌, map, slice_index_or, codes}
 use Rattle.std.specs.Fmt.{decimal, signed_decimal}
 use Rattle.std.specs.List.{flat_map}
 use Rattle.scene_model.specs.Cover.{allowances, burdens}
 use Rattle.music_base.specs.Lines.{ended}
-use Rattle.scene_model.specs.Scenes.{app_at}
+use Rattle.scene_model.specs.declared.scene.AppDecl.{AppDecl}
 use Rattle.scene_model.specs.declared.scene.Scene.{Scene}
 use Rattle.scene_model.specs.declared.wait.Wait.{Wait}
 use Rattle.scene_model.specs.declared.wait.WaitKind.{WaitKind}
@@ -15,11 +15,19 @@ pub record IsBetween (n : ℕ) (w : Wait) : Type 0 where
   pub waiter : w.waiter < n
   pub awaited : w.awaited < n
 
+-- the names of the applications of a scene, in their order
+abbrev pub names_of : Scene → List (List ℕ)
+names_of scene = map (λ (app : AppDecl). app.name) scene.apps
+
 -- ---- the line of a wait
 
+-- the name of application a
+abbrev pub name_at : List (List ℕ) → ℕ → List ℕ
+name_at names a = slice_index_or names a []
+
 -- who waits for whom
-abbrev pub ends_text : Scene → Wait → List ℕ
-ends_text scene w = (app_at scene w.waiter).name ++ codes " waits for " ++ (app_at scene w.awaited).name
+abbrev pub ends_text : List (List ℕ) → Wait → List ℕ
+ends_text names w = name_at names w.waiter ++ codes " waits for " ++ name_at names w.awaited
 
 -- what is waited for
 abbrev pub kind_word : WaitKind → List ℕ
@@ -30,9 +38,9 @@ kind_word ForRoom = codes "room"
 abbrev pub link_text : ℕ → WaitKind → List ℕ
 link_text c kind = codes ": connection " ++ decimal (c + 1) ++ codes ", " ++ kind_word kind
 
-unfoldable pub wait_line : Scene → Wait → List ℕ
-wait_line scene w =
-    ends_text scene w
+unfoldable pub wait_line : List (List ℕ) → Wait → List ℕ
+wait_line names w =
+    ends_text names w
     ++ link_text w.link w.kind
     ++ codes ", allowance "
     ++ signed_decimal w.allowance
@@ -45,6 +53,6 @@ wait_line scene w =
 unfoldable pub sums_line : List Wait → List ℕ
 sums_line cycle = codes "allowances " ++ signed_decimal (allowances cycle) ++ codes ", burdens " ++ signed_decimal (burdens cycle)
 
--- a head, a line for each wait, and the sums
-unfoldable pub cycle_text : Scene → List Wait → List ℕ
-cycle_text scene cycle = ended (codes "uncovered cycle") ++ flat_map (λ w. ended (wait_line scene w)) cycle ++ ended (sums_line cycle)
+-- a head, a line for each wait, and the sums, of applications of these names
+unfoldable pub cycle_text : List (List ℕ) → List Wait → List ℕ
+cycle_text names cycle = ended (codes "uncovered cycle") ++ flat_map (λ w. ended (wait_line names w)) cycle ++ ended (sums_line cycle)

@@ -5,7 +5,9 @@ pub mod OfApps
 pub mod NoMemory
 pub mod OfConfig
 pub mod OfSetups
-pub mod NamedCycles
+pub mod SceneNames
 pub mod ToldCycles
 pub mod OfScenes
 pub mod Faultless
+pub mod OwnTimes
+pub mod Stated

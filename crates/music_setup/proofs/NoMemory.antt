@@ -1,5 +1,5 @@
 -- No fault of an application is want of memory.
-use Rattle.std.proofs.Common.{◌≢◌, ℕ, ◌+◌, Bool, true, false, List, [], ◌∷◌, ◌++◌, length, Option, Some, None}
+use Rattle.std.proofs.Common.{◌≢◌, ℕ, ◌+◌, Bool, true, false, List, [], ◌∷◌, ◌++◌, length, Option, Some, None, ◌-◌}
 use Rattle.std.specs.Prelude.{Result, Ok, Err, IfErr, IfSome, if◌then◌else◌, not, nat_le, codes}
 use Rattle.music_base.specs.Clocks.{steps_until}
 use Rattle.text_words.specs.InTurn.{◌>>=◌, faults_as, in_turn, some_or, unless}
@@ -20,9 +20,10 @@ use Rattle.app_scripts.specs.Forms.{rule_in}
 use Rattle.app_scripts.specs.Rules.{fault_of, judged, rule_beside, rules_of}
 use Rattle.app_scripts.specs.declared.fault.RuleFault.{RuleFault}
 use Rattle.app_scripts.specs.declared.fault.RuleFault.TheVariants as rule
-use Rattle.music_setup.specs.Apps.{app_in, holds_or, is_script, np_of, parts_in, ports_in, rules_in, tick_in, tick_of}
+use Rattle.music_setup.specs.Apps.{app_in, end_in, holds_or, is_script, np_of, parts_in, ports_in, rules_in, span_of, start_in, tick_in, times_of}
+use Rattle.music_setup.specs.declared.times.Times.{Times}
 use Rattle.music_setup.specs.Texts.{HasKindText}
-use Rattle.music_setup.specs.declared.fault.AppKind.TheVariants.{NpText, Binary, TickText, TooManySteps, Ports, Rules, TooManyValues}
+use Rattle.music_setup.specs.declared.fault.AppKind.TheVariants.{NpText, Binary, TickText, StartText, EndText, TooManySteps, Ports, Rules, TooManyValues}
 
 -- ---- errors of readings in steps
 
@@ -118,23 +119,27 @@ of_np : (config : Config) (a : ℕ) → IfErr (np_of config a) HasKindText
 unfolding np_of
 of_np config a = IfErr-some_or HasKindText _ NpText tt
 
-of_tick : (config : Config) (stop a : ℕ) → IfErr (tick_of config stop a) HasKindText
-unfolding tick_of
-of_tick config stop a =
+of_times : (config : Config) (stop a : ℕ) → IfErr (times_of config stop a) HasKindText
+unfolding times_of
+of_times config stop a =
     IfErr-bind HasKindText (holds_or (is_script (looked_up config a (codes "binary"))) Binary) _ (IfErr-holds_or HasKindText _ Binary tt) (λ scripted.
     IfErr-bind HasKindText (some_or (tick_in (looked_up config a (codes "timestep"))) TickText) _ (IfErr-some_or HasKindText _ TickText tt) (λ tick.
-    IfErr-bind HasKindText (holds_or (nat_le (steps_until stop tick) most_steps) TooManySteps) _ (IfErr-holds_or HasKindText _ TooManySteps tt) (λ few. tt)))
+    IfErr-bind HasKindText (some_or (start_in (looked_up config a (codes "start"))) StartText) _ (IfErr-some_or HasKindText _ StartText tt) (λ start.
+    IfErr-bind HasKindText (some_or (end_in stop (looked_up config a (codes "stoptime"))) EndText) _ (IfErr-some_or HasKindText _ EndText tt) (λ end.
+    IfErr-bind HasKindText (holds_or (nat_le (steps_until (end - start) tick) most_steps) TooManySteps) _ (IfErr-holds_or HasKindText _ TooManySteps tt) (λ few. tt)))))
 
-of_parts : (config : Config) (stop a np tick : ℕ) → IfErr (parts_in config stop a np tick) HasKindText
+of_parts : (config : Config) (a np : ℕ) (times : Times) → IfErr (parts_in config a np times) HasKindText
 unfolding parts_in
-of_parts config stop a np tick =
+of_parts config a np times =
+    let tick = times.tick in
+    let span = span_of times in
     IfErr-bind HasKindText (ports_in np (looked_up config a (codes "ports"))) _ (IfErr-faults_as IsPortKind HasKindText Ports _ (λ fault is. is) (of_ports np _)) (λ ports.
-    IfErr-bind HasKindText (rules_in ports tick stop (looked_up config a (codes "args"))) _ (IfErr-faults_as IsRuleKind HasKindText Rules _ (λ fault is. is) (of_rules ports tick stop _)) (λ rules.
-    IfErr-bind HasKindText (holds_or (nat_le (values_in_run stop tick ports) most_values) TooManyValues) _ (IfErr-holds_or HasKindText _ TooManyValues tt) (λ few. tt)))
+    IfErr-bind HasKindText (rules_in ports tick span (looked_up config a (codes "args"))) _ (IfErr-faults_as IsRuleKind HasKindText Rules _ (λ fault is. is) (of_rules ports tick span _)) (λ rules.
+    IfErr-bind HasKindText (holds_or (nat_le (values_in_run span tick ports) most_values) TooManyValues) _ (IfErr-holds_or HasKindText _ TooManyValues tt) (λ few. tt)))
 
 pub of_app : (config : Config) (stop a : ℕ) (name : List ℕ) → IfErr (app_in config stop a name) HasKindText
 unfolding app_in
 of_app config stop a name =
     IfErr-bind HasKindText (np_of config a) _ (of_np config a) (λ np.
-    IfErr-bind HasKindText (tick_of config stop a) _ (of_tick config stop a) (λ tick.
-    IfErr-bind HasKindText (parts_in config stop a np tick) _ (of_parts config stop a np tick) (λ parts. tt)))
+    IfErr-bind HasKindText (times_of config stop a) _ (of_times config stop a) (λ times.
+    IfErr-bind HasKindText (parts_in config a np times) _ (of_parts config a np times) (λ parts. tt)))

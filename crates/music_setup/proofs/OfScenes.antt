@@ -38,5 +38,5 @@ unfolding scene_of
 read_scene config stop apps links read made = rw (read, made) refl
 
 -- applications without a fault have few ports
-pub few_ports : (stop : ℕ) (apps : List AppDecl) → AreApps stop apps → (a : ℕ) → a < length apps → length (app_of apps a).ports ≤ most_ports
-few_ports stop apps are a stands = (All-at (IsApp stop) apps a no_app are.each stands).ports.few
+pub few_ports : (apps : List AppDecl) → AreApps apps → (a : ℕ) → a < length apps → length (app_of apps a).ports ≤ most_ports
+few_ports apps are a stands = (All-at IsApp apps a no_app are.each stands).ports.few

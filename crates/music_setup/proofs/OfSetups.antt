@@ -2,15 +2,14 @@
 use Rattle.std.proofs.Common.{◌≡◌, ℕ, List, length, Ok, Some, refl, sym, ap, subst, ◌∙◌}
 use Rattle.std.specs.Prelude.{All}
 use Rattle.std.proofs.lemmas.List.{length-map}
-use Rattle.config_text.specs.Pairs.{SettingList}
 use Rattle.config_text.specs.declared.text_kind.TextKind.TheVariants.{Unbuilt}
 use Rattle.cycle_check.specs.CycleTexts.{IsBetween}
 use Rattle.scene_model.specs.Cover.{IsReportable}
 use Rattle.scene_model.specs.Faults.{IsFaultless}
 use Rattle.scene_model.specs.declared.scene.AppDecl.{AppDecl}
 use Rattle.scene_model.specs.declared.wait.Wait.{Wait}
-use Rattle.music_setup.specs.Texts.{HasCycleText, HasText}
-use Rattle.music_setup.proofs.NamedCycles.{names_of_scene}
+use Rattle.music_setup.specs.Texts.{HasCycleText, HasText, names_in}
+use Rattle.music_setup.proofs.SceneNames.{names_of_scene}
 use Rattle.music_setup.proofs.ToldCycles.{told_between, told_bounded, told_short}
 use Rattle.config_text.specs.Text.{IsFaultOf, Spells}
 use Rattle.config_text.specs.declared.config.Config.{Config}
@@ -51,13 +50,12 @@ spelled_fault bytes config setup.Memory spells is = tt
 
 -- ---- each has a text
 
-as_many : (config : Config) (scene : Scene) → scene_of config ≡ Ok scene → length scene.apps ≡ length config.sections
+as_many : (config : Config) (scene : Scene) → scene_of config ≡ Ok scene → length scene.apps ≡ length (names_in config.sections)
 as_many config scene describes =
-    sym (length-map scene.apps (λ (app : AppDecl). app.name))
-    ∙ ap (λ (names : List (List ℕ)). length names) (names_of_scene config scene describes)
-    ∙ length-map config.sections (λ (section : List ℕ × SettingList). section.0)
+    sym (length-map scene.apps (λ (app : AppDecl). app.name)) ∙ ap (λ (names : List (List ℕ)). length names) (names_of_scene config scene describes)
 
-told_has_text : (config : Config) (scene : Scene) (cycle : List Wait) → scene_of config ≡ Ok scene → IsFaultless scene → IsReportable (waits scene (stated_limits scene)) cycle → HasCycleText (length config.sections) cycle
+told_has_text : (config : Config) (scene : Scene) (cycle : List Wait) → scene_of config ≡ Ok scene → IsFaultless scene
+    → IsReportable (waits scene (stated_limits scene)) cycle → HasCycleText (length (names_in config.sections)) cycle
 told_has_text config scene cycle describes faultless told = record {
   between = subst (λ (n : ℕ). All (IsBetween n) cycle) (as_many config scene describes) (told_between scene cycle faultless told);
   bounded = told_bounded scene cycle faultless told;

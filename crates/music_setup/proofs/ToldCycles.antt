@@ -2,13 +2,14 @@
 use Rattle.std.proofs.Common.{ℕ, zero, suc, ◌+◌, ◌<◌, ◌≤◌, List, length, map, Option, None, Some, All, arith}
 use Rattle.std.specs.Prelude.{IfSome}
 use Rattle.std.specs.Int.{IsInRange}
+use Rattle.std.specs.Option.{option_or}
 use Rattle.std.specs.List.{range_with_len}
 use Rattle.std.proofs.lemmas.List.Elements.{All-nil, All-cons, All-weaker}
 use Rattle.std.proofs.lemmas.List.FromFn.{length-map-range_with_len}
 use Rattle.scene_model.specs.Cover.{IsBounded, IsReportable, IsWithin, most_waits}
 use Rattle.scene_model.specs.Faults.{IsFaultless}
 use Rattle.scene_model.specs.Limits.{most_buffered}
-use Rattle.scene_model.specs.Scenes.{input_of, output_of}
+use Rattle.scene_model.specs.Scenes.{input_of, link_at, output_of}
 use Rattle.scene_model.specs.Waits.{IsLawfulLimit, at_most, greatest_limit, stated, stated_by, stated_limits, waits}
 use Rattle.scene_model.specs.declared.scene.Scene.{Scene}
 use Rattle.scene_model.specs.declared.wait.Wait.{Wait}
@@ -25,9 +26,15 @@ lawful_by scene c (Some a) None some = (omega (arith, some), omega arith)
 lawful_by scene c None (Some b) some = (omega arith, omega arith)
 lawful_by scene c (Some a) (Some b) some = (omega arith, omega arith)
 
+lawful_or : (own other : Option ℕ) → IfSome own (IsInRange 1 most_buffered) → IsLawfulLimit (at_most greatest_limit other) → IsLawfulLimit (at_most greatest_limit (option_or own other))
+lawful_or None other some lawful = lawful
+lawful_or (Some own) other some lawful = (omega (arith, some), omega arith)
+
 lawful_at : (scene : Scene) → IsFaultless scene → (c : ℕ) → c < length scene.links → IsLawfulLimit (stated scene c)
 unfolding stated
-lawful_at scene faultless c link = lawful_by scene c (output_of scene c).buffered (input_of scene c).buffered (has_options_at scene c faultless link).output_buffered
+lawful_at scene faultless c link =
+    let options = has_options_at scene c faultless link in
+    lawful_or (link_at scene c).buffered _ options.buffered (lawful_by scene c (output_of scene c).buffered (input_of scene c).buffered options.output_buffered)
 
 All-map-range : {X : Type 0} (P : X → Type 0) (f : ℕ → X) (a n : ℕ) → ((k : ℕ) → k < a + n → P (f k)) → All P (map f (range_with_len a n))
 All-map-range P f a zero each = All-nil P

@@ -4,3 +4,4 @@ pub mod Scenes
 pub mod Texts
 pub mod SmallScenes
 pub mod Setups
+pub mod OwnTimes

@@ -9,17 +9,21 @@ use Rattle.scene_model.specs.Waits.{AreLimits, IsAccepted, stated_limits, waits}
 use Rattle.scene_model.specs.declared.scene.Scene.{Scene}
 use Rattle.scene_model.specs.declared.wait.Wait.{Wait}
 use Rattle.tick_plan.specs.Plans.{PlanFits}
+use Rattle.tick_plan.specs.declared.plan.Plan.{Plan}
 use Rattle.music_setup.specs.Faults.{IsSetupFault}
 use Rattle.music_setup.specs.Scenes.{scene_of}
 use Rattle.music_setup.specs.declared.fault.SetupFault.{SetupFault}
 use Rattle.music_setup.specs.declared.fault.SetupFault.TheVariants as setup
-use Rattle.music_setup.specs.declared.ready.Ready.{Ready}
 
 -- ---- what is ready
 
+pub record PlannedScene : Type 0 where
+  pub scene : Scene
+  pub plan : Plan
+
 -- The scene has no fault and is accepted. The plan has the limits of its connections, says which of them are stated, and
 -- fits the scene.
-pub record IsSound (ready : Ready) : Type 0 where
+pub record IsSound (ready : PlannedScene) : Type 0 where
   pub faultless : IsFaultless ready.scene
   pub accepted : IsAccepted ready.scene
   pub limits : AreLimits ready.scene ready.plan.limits.items

@@ -1,13 +1,13 @@
 -- Small configurations, of which the laws say what they make.
-use Rattle.std.specs.Prelude.{ℕ, List, [], ◌∷◌, codes, None}
+use Rattle.std.specs.Prelude.{ℕ, List, [], ◌∷◌, codes, None, Some}
 use Rattle.config_text.specs.Pairs.{SettingList}
 use Rattle.config_text.specs.declared.link_text.LinkText.{LinkText}
 use Rattle.config_text.specs.declared.config.Config.{Config}
 use Rattle.scene_model.specs.declared.scene.AppDecl.{AppDecl}
 
--- an application that ticks each nanosecond and has neither ports nor rules
+-- an application that starts at 0 and ticks each nanosecond, three times, and has neither ports nor rules
 abbrev pub plain_app : List ℕ → AppDecl
-plain_app name = record { name = name; np = 1; tick = 1; ports = []; rules = [] }
+plain_app name = record { name = name; np = 1; start = 0; stop = 3; tick = 1; ports = []; rules = [] }
 
 -- no setting, no section and no connection
 abbrev pub nothing : Config
@@ -35,15 +35,25 @@ binary text = (codes "binary", text)
 abbrev pub timestep : List ℕ → List ℕ × List ℕ
 timestep text = (codes "timestep", text)
 
+abbrev pub start : List ℕ → List ℕ × List ℕ
+start text = (codes "start", text)
+
+abbrev pub stoptime : List ℕ → List ℕ × List ℕ
+stoptime text = (codes "stoptime", text)
+
 abbrev pub ports : List ℕ → List ℕ × List ℕ
 ports text = (codes "ports", text)
 
 abbrev pub args : List ℕ → List ℕ × List ℕ
 args text = (codes "args", text)
 
--- one application of these settings that ticks each nanosecond up to this stop
+-- one application of these settings that ticks each nanosecond, beside a default stop
 abbrev pub until : List ℕ → SettingList → Config
-until stop settings = record (alone settings) { defaults = (codes "stoptime", stop) ∷ (codes "binary", codes "script") ∷ (codes "timestep", codes "1e-9") ∷ [] }
+until stop settings = record (alone settings) { defaults = stoptime stop ∷ binary (codes "script") ∷ timestep (codes "1e-9") ∷ [] }
+
+-- two applications of these settings, beside a default start
+abbrev pub both_from : List ℕ → SettingList → SettingList → Config
+both_from text first second = record (both first second) { defaults = start text ∷ defaults }
 
 -- two applications, of which one puts out events and the other reads them, with these connections
 abbrev pub joined : List LinkText → Config
@@ -51,12 +61,17 @@ joined links = record (both (ports (codes "out event o 0+1") ∷ []) (ports (cod
 
 -- a connection of these ports
 abbrev pub from_to : List ℕ → List ℕ → List ℕ → List ℕ → LinkText
-from_to a p b q = record { from_app = a; from_port = p; to_app = b; to_port = q; width = None }
+from_to a p b q = record { from_app = a; from_port = p; to_app = b; to_port = q; width = None; latency = None; buffered = None }
 
--- a.o -> b.i and two that are faulty
+-- a.o -> b.i
 abbrev pub right_one : LinkText
 right_one = from_to (codes "a") (codes "o") (codes "b") (codes "i")
 
+-- the same with a latency, and how many blocks are kept
+abbrev pub right_one_late : LinkText
+right_one_late = record right_one { latency = Some 1; buffered = Some 3 }
+
+-- two that are faulty
 abbrev pub back : LinkText
 back = from_to (codes "b") (codes "i") (codes "a") (codes "o")
 

@@ -1,5 +1,5 @@
 -- The text of each fault, a line with its end.
-use Rattle.std.specs.Prelude.{◌≢◌, ℕ, suc, ⊤, ◌<◌, ◌≤◌, List, [], ◌∷◌, ◌++◌, length, map, slice_index_or, codes, All, Option, Some, None}
+use Rattle.std.specs.Prelude.{◌≢◌, ℕ, suc, ⊤, ◌<◌, ◌≤◌, List, [], ◌++◌, length, map, slice_index_or, codes, All, Option, Some, None}
 use Rattle.std.specs.Fmt.{decimal}
 use Rattle.config_text.specs.Pairs.{SectionList, SettingList}
 use Rattle.config_text.specs.declared.config.Config.{Config}
@@ -13,13 +13,10 @@ use Rattle.port_match.specs.declared.fault.LinkKind.{LinkKind}
 use Rattle.port_match.specs.declared.fault.LinkKind.TheVariants.{UnknownApp, UnknownPort, Direction, Kind, Width, Unmapped, PairTwice, ContTwice}
 use Rattle.scene_model.specs.Cover.{IsBounded, most_waits}
 use Rattle.music_base.specs.Lines.{ended}
-use Rattle.scene_model.specs.declared.scene.AppDecl.{AppDecl}
-use Rattle.scene_model.specs.declared.scene.Scene.{Scene}
 use Rattle.scene_model.specs.declared.wait.Wait.{Wait}
 use Rattle.cycle_check.specs.CycleTexts.{IsBetween, cycle_text}
-use Rattle.music_setup.specs.SmallScenes.{plain_app}
 use Rattle.music_setup.specs.declared.fault.AppKind.{AppKind}
-use Rattle.music_setup.specs.declared.fault.AppKind.TheVariants.{NpText, Binary, TickText, TooManySteps, Ports, Rules, TooManyValues}
+use Rattle.music_setup.specs.declared.fault.AppKind.TheVariants.{NpText, Binary, TickText, StartText, EndText, TooManySteps, Ports, Rules, TooManyValues}
 use Rattle.music_setup.specs.declared.fault.SceneFault.{SceneFault}
 use Rattle.music_setup.specs.declared.fault.SceneFault.TheVariants.{StopMissing, StopText, App}
 use Rattle.music_setup.specs.declared.fault.SetupFault.{SetupFault}
@@ -33,6 +30,7 @@ kind_name line.BadByte = codes "BadByte"
 kind_name line.BadLine = codes "BadLine"
 kind_name line.BadName = codes "BadName"
 kind_name line.BadWidth = codes "BadWidth"
+kind_name line.BadOption = codes "BadOption"
 kind_name line.RepeatedSection = codes "RepeatedSection"
 kind_name line.RepeatedSetting = codes "RepeatedSetting"
 kind_name line.TooManySections = codes "TooManySections"
@@ -76,6 +74,8 @@ abbrev pub app_text : AppKind → List ℕ
 app_text NpText = codes "NpText"
 app_text Binary = codes "Binary"
 app_text TickText = codes "TickText"
+app_text StartText = codes "StartText"
+app_text EndText = codes "EndText"
 app_text TooManySteps = codes "TooManySteps"
 app_text (Ports fault) = port_text fault
 app_text (Rules fault) = rule_text fault
@@ -112,21 +112,14 @@ link_text place kind = ended (at_place (codes "link fault: connection ") (suc pl
 
 -- ---- a cycle
 
-abbrev pub sections_of : Option Config → SectionList
-sections_of None = []
-sections_of (Some config) = config.sections
+-- the names of sections, in their order
+abbrev pub names_in : SectionList → List (List ℕ)
+names_in sections = map (λ (section : List ℕ × SettingList). section.0) sections
 
--- applications that have the names of the sections, and nothing else of theirs
-abbrev pub named_apps : SectionList → List AppDecl
-named_apps sections = map (λ (section : List ℕ × SettingList). plain_app section.0) sections
-
--- a scene of these
-abbrev pub named_scene : SectionList → Scene
-named_scene sections = record { stop = 0; apps = named_apps sections; links = [] }
-
--- a cycle is written with the names of the applications alone
-unfoldable pub uncovered_text : Option Config → List Wait → List ℕ
-uncovered_text config cycle = cycle_text (named_scene (sections_of config)) cycle
+-- the names of the applications, which are those of the sections
+abbrev pub app_names : Option Config → List (List ℕ)
+app_names None = []
+app_names (Some config) = names_in config.sections
 
 -- ---- all faults
 
@@ -135,7 +128,7 @@ unfoldable pub text_of_fault : Option Config → SetupFault → List ℕ
 text_of_fault config (setup.Text line kind) = text_fault line kind
 text_of_fault config (setup.Scene fault) = ended (codes "scene fault: " ++ scene_text config fault)
 text_of_fault config (setup.Link place what) = link_text place what
-text_of_fault config (setup.Uncovered cycle) = uncovered_text config cycle.0.items
+text_of_fault config (setup.Uncovered cycle) = cycle_text (app_names config) cycle.0.items
 text_of_fault config setup.Memory = []
 
 -- application a stands in the configuration
@@ -166,5 +159,5 @@ abbrev pub HasText : Option Config → SetupFault → Type 0
 HasText config (setup.Text _ _) = ⊤
 HasText config (setup.Scene fault) = IsOfConfig config fault
 HasText config (setup.Link _ _) = ⊤
-HasText config (setup.Uncovered cycle) = HasCycleText (length (sections_of config)) cycle.0.items
+HasText config (setup.Uncovered cycle) = HasCycleText (length (app_names config)) cycle.0.items
 HasText config setup.Memory = ⊥

@@ -6,16 +6,17 @@ ghost use Rattle.scene_model.specs.Limits.{most_ranks, most_steps};
 ghost use Rattle.scene_model.specs.Ports.{names_differ};
 ghost use Rattle.music_base.specs.Times.{greatest_time};
 ghost use Rattle.scene_model.specs.Faults.{AreApps};
-ghost use Rattle.music_setup.specs.Apps.{app_in, apps_of, apps_until, np_of, parts_in, ports_in, rules_in, stop_of, tick_of};
+ghost use Rattle.music_setup.specs.Apps.{app_in, apps_of, apps_until, np_of, parts_in, ports_in, rules_in, span_of, stop_of, times_of};
 ghost use Rattle.music_setup.specs.Faults.{IsAppFault, IsSceneFault};
 
 use crate::fault::AppFault;
-use crate::settings::{is_script, np_in, setting, stop_in, tick_in};
+use crate::settings::{end_in, is_script, np_in, setting, start_in, stop_in, tick_in};
+use crate::times::{Times, steps_in};
 use crate::values::has_few_values;
 use crate::{AppKind, SceneFault, SetupFault};
 use app_scripts::read_rules;
 use config_text::Config;
-use music_base::{AppId, Items, Name, Nanos, TryCopy, Word, steps_of};
+use music_base::{AppId, Items, Name, Nanos, TryCopy, Word};
 use port_table::read_ports;
 use scene_model::{AppDecl, PortDecl, Rule};
 use std::alloc::Global;
@@ -37,22 +38,28 @@ fn ports_in(alloc: Global, np: u32, text: Option<&Word>) -> Result<Items<PortDec
     Ok(ports)
 }
 
-/// The rules of an application of these ports and this tick.
+/// The rules of an application of these ports that runs at these times.
 #[tactic(auto, using(crate::proofs::OfApps::rules_fault))]
 fn rules_in(
     alloc: Global,
     ports: &[PortDecl],
-    tick: Nanos,
-    stop: Nanos,
+    times: Times,
     text: Option<&Word>,
 ) -> Result<Items<Rule>, AppFault>
-    requires tick { 1 ≤ tick }
+    requires tick { 1 ≤ times.tick }
     requires names { names_differ ports.now ≡ true }
-    ensures rules { IfOk result (λ rules. rules_in ports.now tick stop (option_copied text.entry) ≡ Ok rules) }
-    ensures fault { IfErr result (IsAppFault (rules_in ports.now tick stop (option_copied text.entry))) }
+    ensures rules { IfOk result (λ rules. rules_in ports.now times.tick (span_of times) (option_copied text.entry) ≡ Ok rules) }
+    ensures fault { IfErr result (IsAppFault (rules_in ports.now times.tick (span_of times) (option_copied text.entry))) }
 {
     let none = Word::new();
-    let rules = read_rules(alloc, text.unwrap_or(&none), ports, tick, stop)?;
+    let rules = read_rules(
+        alloc,
+        text.unwrap_or(&none),
+        ports,
+        times.start,
+        times.tick,
+        times.stop,
+    )?;
     Ok(rules)
 }
 
@@ -76,13 +83,13 @@ fn read_np(alloc: Global, config: &Config, place: u32) -> Result<u32, AppFault>
     np_in(text).ok_or(AppFault::Kind(AppKind::NpText))
 }
 
-/// The tick of the application of the section at this place, which has to be a script of few enough steps.
-#[tactic(auto, unfolding(crate::specs::Apps::tick_of))]
-fn read_tick(alloc: Global, config: &Config, stop: Nanos, place: u32) -> Result<Nanos, AppFault>
+/// When the application of the section at this place runs. It has to be a script of few enough steps.
+#[tactic(auto, unfolding(crate::specs::Apps::times_of))]
+fn read_times(alloc: Global, config: &Config, stop: Nanos, place: u32) -> Result<Times, AppFault>
     requires { place < length config.now.sections }
-    ensures tick { IfOk result (λ tick. tick_of config.now stop place ≡ Ok tick) }
-    ensures least { IfOk result (λ tick. 1 ≤ tick) }
-    ensures fault { IfErr result (IsAppFault (tick_of config.now stop place)) }
+    ensures times { IfOk result (λ times. times_of config.now stop place ≡ Ok times) }
+    ensures least { IfOk result (λ times. 1 ≤ times.tick) }
+    ensures fault { IfErr result (IsAppFault (times_of config.now stop place)) }
 {
     if !is_script(setting(alloc, config, place, b"binary")?) {
         return Err(AppFault::Kind(AppKind::Binary));
@@ -90,10 +97,21 @@ fn read_tick(alloc: Global, config: &Config, stop: Nanos, place: u32) -> Result<
     let Some(tick) = tick_in(setting(alloc, config, place, b"timestep")?) else {
         return Err(AppFault::Kind(AppKind::TickText));
     };
-    if !are_few(steps_of(stop, tick)) {
+    let Some(start) = start_in(setting(alloc, config, place, b"start")?) else {
+        return Err(AppFault::Kind(AppKind::StartText));
+    };
+    let Some(end) = end_in(stop, setting(alloc, config, place, b"stoptime")?) else {
+        return Err(AppFault::Kind(AppKind::EndText));
+    };
+    let times = Times {
+        start,
+        stop: end,
+        tick,
+    };
+    if !are_few(steps_in(times)) {
         return Err(AppFault::Kind(AppKind::TooManySteps));
     }
-    Ok(tick)
+    Ok(times)
 }
 
 /// The ports and the rules of the application of the section at this place.
@@ -101,22 +119,21 @@ fn read_tick(alloc: Global, config: &Config, stop: Nanos, place: u32) -> Result<
 fn read_parts(
     alloc: Global,
     config: &Config,
-    stop: Nanos,
     place: u32,
     np: u32,
-    tick: Nanos,
+    times: Times,
 ) -> Result<(Items<PortDecl>, Items<Rule>), AppFault>
     requires place { place < length config.now.sections }
     requires least { 1 ≤ np }
     requires most { np ≤ most_ranks }
-    requires tick { 1 ≤ tick }
-    ensures parts { IfOk result (λ parts. parts_in config.now stop place np tick ≡ Ok (parts.0, parts.1)) }
-    ensures fault { IfErr result (IsAppFault (parts_in config.now stop place np tick)) }
+    requires tick { 1 ≤ times.tick }
+    ensures parts { IfOk result (λ parts. parts_in config.now place np times ≡ Ok (parts.0, parts.1)) }
+    ensures fault { IfErr result (IsAppFault (parts_in config.now place np times)) }
 {
     let ports = ports_in(alloc, np, setting(alloc, config, place, b"ports")?)?;
     let args = setting(alloc, config, place, b"args")?;
-    let rules = rules_in(alloc, ports.as_slice(), tick, stop, args)?;
-    if !has_few_values(steps_of(stop, tick), ports.as_slice()) {
+    let rules = rules_in(alloc, ports.as_slice(), times, args)?;
+    if !has_few_values(steps_in(times), ports.as_slice()) {
         return Err(AppFault::Kind(AppKind::TooManyValues));
     }
     Ok((ports, rules))
@@ -136,12 +153,15 @@ fn read_app(
     ensures fault { IfErr result (IsAppFault (app_in config.now stop place name.now)) }
 {
     let np = read_np(alloc, config, place)?;
-    let tick = read_tick(alloc, config, stop, place)?;
-    let (ports, rules) = read_parts(alloc, config, stop, place, np, tick)?;
+    let times = read_times(alloc, config, stop, place)?;
+    let Times { start, stop, tick } = times;
+    let (ports, rules) = read_parts(alloc, config, place, np, times)?;
     let name = name.copy(alloc)?;
     Ok(AppDecl {
         name,
         np,
+        start,
+        stop,
         tick,
         ports,
         rules,
@@ -151,8 +171,9 @@ fn read_app(
 /// The applications of the sections, one for each, in the order of the text.
 #[tactic(auto, using(crate::proofs::OfApps::few_sections))]
 fn apps_until(alloc: Global, config: &Config, stop: Nanos) -> Result<Items<AppDecl>, SetupFault>
+    requires { stop ≤ greatest_time }
     ensures apps { IfOk result (λ apps. apps_until config.now stop ≡ Ok apps) }
-    ensures lawful { IfOk result (AreApps stop) }
+    ensures lawful { IfOk result AreApps }
     ensures fault { IfErr result (IsSceneFault (apps_until config.now stop)) }
 {
     let mut apps = Items::new(alloc);
@@ -170,7 +191,7 @@ fn apps_until(alloc: Global, config: &Config, stop: Nanos) -> Result<Items<AppDe
     Ok(apps)
 }
 
-/// The stop, which stands among the defaults.
+/// The stop of the scene, which has to stand among the defaults.
 #[tactic(auto, using(crate::proofs::Faultless::stop_early))]
 fn stop_of(alloc: Global, config: &Config) -> Result<Nanos, SetupFault>
     ensures stop { IfOk result (λ stop. stop_of config.now ≡ Ok stop) }
@@ -184,12 +205,12 @@ fn stop_of(alloc: Global, config: &Config) -> Result<Nanos, SetupFault>
     }
 }
 
-/// The stop of a configuration, in ns, and its applications in the order of the text, each with its ports and rules.
+/// The stop of a configuration, in ns, and its applications in the order of the text, each with its times, ports and rules.
 #[tactic(auto, unfolding(crate::specs::Apps::apps_of))]
 pub fn read_apps(alloc: Global, config: &Config) -> Result<(Nanos, Items<AppDecl>), SetupFault>
     ensures apps { IfOk result (λ read. apps_of config.now ≡ Ok (read.0, read.1)) }
     ensures early { IfOk result (λ read. read.0 ≤ greatest_time) }
-    ensures lawful { IfOk result (λ read. AreApps read.0 read.1) }
+    ensures lawful { IfOk result (λ read. AreApps read.1) }
     ensures fault { IfErr result (IsSceneFault (apps_of config.now)) }
 {
     let stop = stop_of(alloc, config)?;

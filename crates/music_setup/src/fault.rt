@@ -50,7 +50,11 @@ pub enum AppKind {
     Binary,
     /// `timestep` is absent, or is no time of 1 to 10^12 ns.
     TickText,
-    /// It makes more than 1,000,000 steps until the stop.
+    /// `start` is no time.
+    StartText,
+    /// `stoptime` of its section is no time.
+    EndText,
+    /// It makes more than 1,000,000 steps, from its start until its stop.
     TooManySteps,
     /// The first faulty declaration of `ports`.
     Ports(PortFault),

@@ -3,19 +3,20 @@
 #![tactic(auto)]
 
 mod apps;
-mod cycle_texts;
 mod fault;
 mod laws;
-mod ready;
 mod scenes;
 mod settings;
 mod setups;
 mod texts;
+mod times;
 mod values;
 
 pub use fault::{AppKind, SceneFault, SetupFault};
-pub use laws::{cycles_name_applications, first_faults, small_links, small_scenes};
-pub use ready::Ready;
+pub use laws::{
+    configurations_without_own_times, cycles_name_applications, first_faults, small_links,
+    small_scenes, small_times,
+};
 pub use scenes::read_scene;
-pub use setups::{setup, setup_config};
+pub use setups::{Ready, setup, setup_config};
 pub use texts::fault_text;

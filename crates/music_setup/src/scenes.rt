@@ -11,13 +11,15 @@ use port_match::match_links;
 use scene_model::Scene;
 use std::alloc::Global;
 
-/// The scene that a configuration describes: its stop, its applications, each with its ports and rules, and the links
-/// that its connections make between them, all in the order of the text.
+/// The scene that a configuration describes: its stop, its applications, each with its times, its ports and its rules, and
+/// the links that its connections make between them, all in the order of the text.
 ///
-/// The stop is the default `stoptime`, a time in seconds. Each section is an application. Its settings are the
-/// section's own and else the defaults: `np`, the number of processes, 1 to 64, and 1 where it is absent; `binary`,
-/// which has to be `script`; `timestep`, a time of 1 to 10^12 ns; `ports` and `args`, the declarations of ports and the
-/// rules, none where they are absent. Other settings have no effect.
+/// The stop is the default `stoptime`, which has to stand. Each section is an application. Its settings are the section's
+/// own and else the defaults: `np`, the number of processes, 1 to 64, and 1 where it is absent; `binary`, which has to be
+/// `script`; `timestep`, a time of 1 to 10^12 ns; `start`, the clock of its first step, a time, and 0 where it is absent;
+/// `stoptime`, before which its steps begin, a time; `ports` and `args`, the declarations of ports and the rules, none
+/// where they are absent. Times are written in seconds, and are at most 10^15 ns. An application that does not start before
+/// its stop runs no step. Other settings have no effect.
 ///
 /// Refused is the first fault: that of the stop; then that of the first application that has one, by its place from 0,
 /// with the first of its kinds in the order of `AppKind`; then that of the first faulty connection, by its place from 0,

@@ -3,17 +3,16 @@ ghost use Rattle.std.specs.Prelude.{◌≡◌, ◌<◌, ◌≤◌, ◌&&◌, tru
 ghost use Rattle.std.specs.Option.{option_copied};
 ghost use Rattle.std.specs.Int.{is_in_range};
 ghost use Rattle.music_base.specs.Names.{is_name};
-ghost use Rattle.music_base.specs.Times.{time_value};
 ghost use Rattle.config_text.specs.Lookup.{looked_up};
 ghost use Rattle.config_text.specs.Pairs.{value_of};
 ghost use Rattle.scene_model.specs.Limits.{most_ranks};
-ghost use Rattle.music_setup.specs.Apps.{is_script, np_in, stop_in, tick_in, time_or_none};
+ghost use Rattle.music_setup.specs.Apps.{end_in, is_script, np_in, start_in, stop_in, tick_in};
 
 use crate::SceneFault;
 use config_text::{Config, lookup};
-use music_base::{Name, Nanos, NoMemory, Word, count_up_to, read_time};
+use music_base::{Name, Nanos, NoMemory, Word, count_up_to};
 use std::alloc::Global;
-use text_words::is_key;
+use text_words::{is_key, time_in};
 
 /// How many processes an application has at most.
 const MOST_RANKS: u32 = 64;
@@ -61,22 +60,13 @@ pub fn is_script(text: Option<&Word>) -> bool
     }
 }
 
-fn time_in(text: &Word) -> Option<Nanos>
-    ensures { result ≡ time_or_none (time_value text.now) }
-{
-    match read_time(text.as_slice()) {
-        Ok(time) => Some(time),
-        Err(_) => None,
-    }
-}
-
 /// The tick: 1 to 10^12 ns.
 #[tactic(auto, unfolding(crate::specs::Apps::tick_in))]
 pub fn tick_in(text: Option<&Word>) -> Option<Nanos>
     ensures tick { result ≡ tick_in (option_copied text.entry) }
     ensures least { IfSome result (λ tick. 1 ≤ tick) }
 {
-    let tick = time_in(text?)?;
+    let tick = time_in(text?.as_slice())?;
     if 1 <= tick.0 && tick.0 <= LONGEST_TICK {
         Some(tick)
     } else {
@@ -84,7 +74,29 @@ pub fn tick_in(text: Option<&Word>) -> Option<Nanos>
     }
 }
 
-/// The stop, which has to stand among the defaults.
+/// The start of an application: a time, and 0 ns where the setting is absent.
+#[tactic(auto, unfolding(crate::specs::Apps::start_in))]
+pub fn start_in(text: Option<&Word>) -> Option<Nanos>
+    ensures { result ≡ start_in (option_copied text.entry) }
+{
+    match text {
+        Some(text) => time_in(text.as_slice()),
+        None => Some(Nanos(0)),
+    }
+}
+
+/// The stop of an application: a time, and that of the scene where the setting is absent.
+#[tactic(auto, unfolding(crate::specs::Apps::end_in))]
+pub fn end_in(stop: Nanos, text: Option<&Word>) -> Option<Nanos>
+    ensures { result ≡ end_in stop (option_copied text.entry) }
+{
+    match text {
+        Some(text) => time_in(text.as_slice()),
+        None => Some(stop),
+    }
+}
+
+/// The stop of the scene: a time. The setting has to stand.
 #[tactic(auto, unfolding(crate::specs::Apps::stop_in))]
 pub fn stop_in(text: Option<&Word>) -> Result<Nanos, SceneFault>
     ensures { result ≡ stop_in (option_copied text.entry) }
@@ -92,5 +104,5 @@ pub fn stop_in(text: Option<&Word>) -> Result<Nanos, SceneFault>
     let Some(text) = text else {
         return Err(SceneFault::StopMissing);
     };
-    time_in(text).ok_or(SceneFault::StopText)
+    time_in(text.as_slice()).ok_or(SceneFault::StopText)
 }

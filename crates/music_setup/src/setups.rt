@@ -6,11 +6,48 @@ ghost use Rattle.music_setup.specs.Setups.{IsConfigFault, IsSound, IsTextFault, 
 ghost use Rattle.music_setup.specs.Texts.{HasText};
 ghost use Rattle.music_setup.specs.declared.fault.SetupFault.TheVariants.{Memory, Text};
 
+use crate::SetupFault;
 use crate::scenes::read_scene;
-use crate::{Ready, SetupFault};
 use config_text::{Config, read_config};
+use scene_model::Scene;
 use std::alloc::Global;
-use tick_plan::negotiate;
+use std::marker::Model;
+use tick_plan::{Plan, negotiate};
+
+/// A scene that has no fault and is accepted, and its plan, which fits it.
+#[derive(Debug, Drop)]
+pub struct Ready {
+    scene: Scene,
+    plan: Plan,
+}
+
+impl Model for Ready {
+    ghost use Rattle.music_setup.specs.Setups.{IsSound, PlannedScene};
+
+    ghost Value = { PlannedScene };
+
+    ghost view = { λ ready. record { scene = ready.scene; plan = ready.plan } };
+
+    ghost invariant = { λ ready. IsSound (record { scene = ready.scene; plan = ready.plan }) };
+}
+
+impl Ready {
+    /// The scene, which has no fault and is accepted.
+    pub fn scene(&self) -> &Scene
+        ensures scene { result.now ≡ self.now.scene }
+        ensures sound { IsSound self.now }
+    {
+        &self.scene
+    }
+
+    /// The plan of the scene, which fits it.
+    pub fn plan(&self) -> &Plan
+        ensures plan { result.now ≡ self.now.plan }
+        ensures sound { IsSound self.now }
+    {
+        &self.plan
+    }
+}
 
 /// The scene that a configuration describes, as [`read_scene`] gives it, and its plan, as `tick_plan::negotiate` gives it.
 ///

@@ -1,17 +1,21 @@
 //! The text of each fault.
-ghost use Rattle.std.specs.Prelude.{◌≡◌, ◌<◌, ◌++◌, [], ◌∷◌, codes, length, IfOk};
+ghost use Rattle.std.specs.Prelude.{◌≡◌, ◌<◌, ◌++◌, [], ◌∷◌, codes, length, map, IfOk};
 ghost use Rattle.std.specs.Option.{option_copied};
+ghost use Rattle.cycle_check.specs.CycleTexts.{cycle_text};
 ghost use Rattle.music_base.specs.Lines.{ended};
 ghost use Rattle.music_setup.specs.Texts.{
   HasApp,
+  HasCycleText,
   HasText,
   IsOfConfig,
   app_name,
+  app_names,
   app_text,
   at_place,
   kind_name,
   link_kind_name,
   link_text,
+  names_in,
   port_text,
   rule_text,
   scene_text,
@@ -19,10 +23,10 @@ ghost use Rattle.music_setup.specs.Texts.{
   text_of_fault,
 };
 
-use crate::cycle_texts::uncovered_text;
 use crate::{AppKind, SceneFault, SetupFault};
 use app_scripts::RuleFault;
-use config_text::{Config, TextKind};
+use config_text::{Config, Sections, TextKind};
+use cycle_check::{Cycle, write_cycle};
 use itoa::Buffer;
 use music_base::{AppId, LinkId, NoMemory};
 use port_match::LinkKind;
@@ -38,6 +42,7 @@ fn kind_name(kind: TextKind) -> &'static [u8]
         TextKind::BadLine => b"BadLine",
         TextKind::BadName => b"BadName",
         TextKind::BadWidth => b"BadWidth",
+        TextKind::BadOption => b"BadOption",
         TextKind::RepeatedSection => b"RepeatedSection",
         TextKind::RepeatedSetting => b"RepeatedSetting",
         TextKind::TooManySections => b"TooManySections",
@@ -107,6 +112,8 @@ fn app_text(alloc: Global, kind: AppKind) -> Result<Vec<u8>, NoMemory>
         AppKind::NpText => Ok(Vec::from_slice(alloc, b"NpText")?),
         AppKind::Binary => Ok(Vec::from_slice(alloc, b"Binary")?),
         AppKind::TickText => Ok(Vec::from_slice(alloc, b"TickText")?),
+        AppKind::StartText => Ok(Vec::from_slice(alloc, b"StartText")?),
+        AppKind::EndText => Ok(Vec::from_slice(alloc, b"EndText")?),
         AppKind::TooManySteps => Ok(Vec::from_slice(alloc, b"TooManySteps")?),
         AppKind::Ports(fault) => port_text(alloc, fault),
         AppKind::Rules(fault) => rule_text(alloc, fault),
@@ -191,6 +198,34 @@ fn link_text(alloc: Global, link: LinkId, kind: LinkKind) -> Result<Vec<u8>, NoM
     )?;
     text.extend_from_slice(b"\n")?;
     Ok(text)
+}
+
+/// The names of the sections, in their order.
+fn names_in(alloc: Global, sections: &Sections) -> Result<Vec<&[u8]>, NoMemory>
+    ensures { IfOk result (λ names. map (λ name. name.now) names.items ≡ names_in sections.now) }
+{
+    let mut names = Vec::new(alloc);
+    for place in 0..sections.len() {
+        let (name, _) = sections.pair_at(place);
+        names.push(name.as_slice())?;
+    }
+    Ok(names)
+}
+
+/// The text of a cycle that is not covered, with the names of the sections, which are those of the applications.
+fn uncovered_text(
+    alloc: Global,
+    config: Option<&Config>,
+    cycle: &Cycle,
+) -> Result<Vec<u8>, NoMemory>
+    requires { HasCycleText (length (app_names (option_copied config))) cycle.now.0.items }
+    ensures { IfOk result (λ text. text.items ≡ cycle_text (app_names (option_copied config.entry)) cycle.now.0.items) }
+{
+    let names = match config {
+        Some(config) => names_in(alloc, &config.sections)?,
+        None => Vec::new(alloc),
+    };
+    write_cycle(alloc, &names, cycle)
 }
 
 /// The text of a fault: one line with its end, and of a cycle a head, a line for each wait, and a line of the two sums.

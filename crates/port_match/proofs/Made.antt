@@ -19,7 +19,7 @@ use Rattle.scene_model.specs.declared.port.PortKind.{PortKind}
 use Rattle.scene_model.specs.declared.port.PortKind.TheVariants.{Events, Values, Messages}
 use Rattle.scene_model.specs.declared.scene.AppDecl.{AppDecl}
 use Rattle.scene_model.specs.declared.scene.Link.{Link}
-use Rattle.scene_model.specs.Links.{AreLinks, app_of, directions_fit, feeds_again, has_ends, has_values, input_of, is_continuous, is_directed, is_of_one_kind, is_width, is_within_width, output_of, port_of, same_ends, same_input, values_fit, width_fits}
+use Rattle.scene_model.specs.Links.{AreLinks, app_of, directions_fit, feeds_again, has_ends, has_values, has_lawful_numbers, input_of, is_buffered, is_continuous, is_latency, is_directed, is_of_one_kind, is_width, is_within_width, output_of, port_of, same_ends, same_input, values_fit, width_fits}
 use Rattle.scene_model.specs.Ports.{same_kind}
 use Rattle.port_match.specs.Links.{app_place, ends_of, fault_after, fault_between, is_fed_by, link_after, link_at_place, links_of, port_place}
 use Rattle.port_match.specs.Made.{named}
@@ -36,6 +36,8 @@ record Joins (apps : List AppDecl) (text : LinkText) (link : Link) : Type 0 wher
   from_port : port_place (app_of apps link.from_app) text.from_port ≡ Some link.from_port
   to_port : port_place (app_of apps link.to_app) text.to_port ≡ Some link.to_port
   width : link.width ≡ text.width
+  latency : link.latency ≡ text.latency
+  buffered : link.buffered ≡ text.buffered
 
 abbrev Made : Link → Result Link LinkKind
 Made link = Ok link
@@ -44,7 +46,7 @@ abbrev Refused : LinkKind → Result Link LinkKind
 Refused kind = Err kind
 
 abbrev joined : LinkText → ℕ → ℕ → ℕ → ℕ → Link
-joined text a b p q = record { from_app = a; from_port = p; to_app = b; to_port = q; width = text.width }
+joined text a b p q = record { from_app = a; from_port = p; to_app = b; to_port = q; width = text.width; latency = text.latency; buffered = text.buffered }
 
 joins_ports : (apps : List AppDecl) (text : LinkText) (link : Link) (a b : ℕ) (p q : Option ℕ)
     → app_place apps text.from_app ≡ Some a → app_place apps text.to_app ≡ Some b
@@ -55,7 +57,7 @@ joins_ports apps text link a b (Some p) None from to left right gave = let stops
 joins_ports apps text link a b (Some p) (Some q) from to left right gave =
     let is : Made (joined text a b p q) ≡ Made link = gave in
     let same : joined text a b p q ≡ link = cc in
-    let joins : Joins apps text (joined text a b p q) = record { from_app = from; to_app = to; from_port = left; to_port = right; width = refl } in
+    let joins : Joins apps text (joined text a b p q) = record { from_app = from; to_app = to; from_port = left; to_port = right; width = refl; latency = refl; buffered = refl } in
     rw same at joins
 
 joins_apps : (apps : List AppDecl) (text : LinkText) (link : Link) (a b : Option ℕ)
@@ -99,6 +101,8 @@ ends_named apps text link is =
       (port_called (app_of apps link.from_app) text.from_port link.from_port is.from_port).1,
       (port_called (app_of apps link.to_app) text.to_port link.to_port is.to_port).1,
       is.width,
+      is.latency,
+      is.buffered,
     ) refl
 
 -- ---- a link that was made
@@ -210,24 +214,22 @@ links_of-named apps texts links gave =
 pub links_of-many : (apps : List AppDecl) (texts : List LinkText) (links : List Link) → links_of apps texts ≡ Ok links → length links ≡ length texts
 links_of-many apps texts links gave = sym (length-map links (named apps)) ∙ ap (λ (made : List LinkText). length made) (links_of-named apps texts links gave)
 
--- ---- widths
+-- ---- what a link states
 
-fifth : (a b c d e : Bool) → (a && b && c && d && e) ≡ true → e ≡ true
-fifth true true true true e is = is
-fifth true true true false e is = absurd cc
-fifth true true false d e is = absurd cc
-fifth true false c d e is = absurd cc
-fifth false b c d e is = absurd cc
+behind_names : (names width latency buffered : Bool) → (names && width && latency && buffered) ≡ true → (width && latency && buffered) ≡ true
+behind_names true width latency buffered is = is
+behind_names false width latency buffered is = absurd cc
 
--- a width that a connection can state is one that a link can have
-widths_named : (apps : List AppDecl) (links : List Link) → list_all is_link (map (named apps) links) ≡ true → list_all (λ (link : Link). is_width link.width) links ≡ true
+-- what a connection can state is what a link can
+numbers_named : (apps : List AppDecl) (links : List Link) → list_all is_link (map (named apps) links) ≡ true → list_all has_lawful_numbers links ≡ true
 unfolding named
-widths_named apps [] lawful = refl
-widths_named apps (link ∷ links) lawful =
+numbers_named apps [] lawful = refl
+numbers_named apps (link ∷ links) lawful =
     let text : LinkText = named apps link in
     let front = and_parts (is_link text) (list_all is_link (map (named apps) links)) lawful in
-    let width : is_width link.width ≡ true = fifth (is_name text.from_app) (is_name text.from_port) (is_name text.to_app) (is_name text.to_port) (is_width link.width) front.0 in
-    rw width (widths_named apps links front.1)
+    let names : Bool = is_name text.from_app && is_name text.from_port && is_name text.to_app && is_name text.to_port in
+    let here : has_lawful_numbers link ≡ true = behind_names names (is_width link.width) (is_latency link.latency) (is_buffered link.buffered) front.0 in
+    rw here (numbers_named apps links front.1)
 
-pub links_of-widths : (apps : List AppDecl) (texts : List LinkText) (links : List Link) → links_of apps texts ≡ Ok links → list_all is_link texts ≡ true → list_all (λ (link : Link). is_width link.width) links ≡ true
-links_of-widths apps texts links gave lawful = widths_named apps links (ap (list_all is_link) (links_of-named apps texts links gave) ∙ lawful)
+pub links_of-numbers : (apps : List AppDecl) (texts : List LinkText) (links : List Link) → links_of apps texts ≡ Ok links → list_all is_link texts ≡ true → list_all has_lawful_numbers links ≡ true
+links_of-numbers apps texts links gave lawful = numbers_named apps links (ap (list_all is_link) (links_of-named apps texts links gave) ∙ lawful)

@@ -27,14 +27,15 @@ port_place app name = position (λ (port : PortDecl). bytes_eq port.name name) a
 
 -- ---- the ends that a connection names
 
--- each end names an application, and a port of that one. Both applications are looked for first
+-- each end names an application, and a port of that one. Both applications are looked for first. What the connection states,
+-- its link states
 unfoldable pub ends_of : List AppDecl → LinkText → Result Link LinkKind
 ends_of apps text = do
   a ← some_or (app_place apps text.from_app) UnknownApp
   b ← some_or (app_place apps text.to_app) UnknownApp
   p ← some_or (port_place (app_of apps a) text.from_port) UnknownPort
   q ← some_or (port_place (app_of apps b) text.to_port) UnknownPort
-  Ok (record { from_app = a; from_port = p; to_app = b; to_port = q; width = text.width })
+  Ok (record { from_app = a; from_port = p; to_app = b; to_port = q; width = text.width; latency = text.latency; buffered = text.buffered })
 
 -- ---- earlier links
 

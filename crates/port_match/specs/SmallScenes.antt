@@ -10,7 +10,7 @@ use Rattle.port_match.specs.Links.{links_of}
 use Rattle.port_match.specs.declared.fault.MatchFault.{MatchFault}
 
 abbrev app : List ℕ → List PortDecl → AppDecl
-app name ports = record { name = name; np = 1; tick = 1_000_000; ports = ports; rules = [] }
+app name ports = record { name = name; np = 1; start = 0; stop = 0; tick = 1_000_000; ports = ports; rules = [] }
 
 -- an output and an input of each kind
 abbrev pub left : AppDecl
@@ -37,11 +37,14 @@ right = app (codes "right") (
 
 -- left.P -> right.Q and so on
 abbrev pub joins : List ℕ → List ℕ → List ℕ → List ℕ → LinkText
-joins a p b q = record { from_app = a; from_port = p; to_app = b; to_port = q; width = None }
+joins a p b q = record { from_app = a; from_port = p; to_app = b; to_port = q; width = None; latency = None; buffered = None }
 
--- the same with a width
+-- the same with a width, and with a latency and how many blocks are kept
 abbrev pub within : ℕ → LinkText → LinkText
 within width text = record text { width = Some width }
+
+abbrev pub stating : ℕ → ℕ → LinkText → LinkText
+stating latency blocks text = record text { latency = Some latency; buffered = Some blocks }
 
 -- what connections make between the two
 abbrev pub matched : List LinkText → Result (List Link) MatchFault

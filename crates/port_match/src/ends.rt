@@ -71,7 +71,7 @@ pub fn input_of<'a>(apps: &'a [AppDecl], link: &Link) -> &'a PortDecl
     port_at(apps, link.to_app, link.to_port)
 }
 
-/// The link between the ports that the connection names.
+/// The link between the ports that the connection names. It states what the connection states.
 #[tactic(auto, unfolding(crate::specs::Links::ends_of, scene_model::specs::Links::has_ends))]
 pub fn ends_of(apps: &[AppDecl], text: &LinkText) -> Result<Link, LinkKind>
     requires apps { length apps.now ≤ most_apps }
@@ -89,6 +89,8 @@ pub fn ends_of(apps: &[AppDecl], text: &LinkText) -> Result<Link, LinkKind>
         to_app: AppId(b as u32),
         to_port: PortId(q as u32),
         width: text.width,
+        latency: text.latency,
+        buffered: text.buffered,
     })
 }
 

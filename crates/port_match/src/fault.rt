@@ -10,7 +10,7 @@ pub enum LinkKind {
     UnknownApp,
     /// An end names no port of its application.
     UnknownPort,
-    /// The left port is no output, or the right one is no input.
+    /// The sender's port is no output, or the receiver's is no input.
     Direction,
     /// The two ports differ in kind.
     Kind,

@@ -4,13 +4,13 @@ ghost use Rattle.std.specs.List.{list_all};
 ghost use Rattle.text_words.specs.InTurn.{IsFirst};
 ghost use Rattle.config_text.specs.Connections.{is_link};
 ghost use Rattle.config_text.specs.declared.link_text.LinkText.{LinkText};
-ghost use Rattle.scene_model.specs.Links.{AreLinks, is_width};
+ghost use Rattle.scene_model.specs.Links.{AreLinks, has_lawful_numbers};
 ghost use Rattle.scene_model.specs.WorkedScenes.{link};
 ghost use Rattle.scene_model.specs.declared.scene.AppDecl.{AppDecl};
 ghost use Rattle.scene_model.specs.declared.scene.Link.{Link};
 ghost use Rattle.port_match.specs.Links.{link_at_place, links_of};
 ghost use Rattle.port_match.specs.Made.{named};
-ghost use Rattle.port_match.specs.SmallScenes.{few_many, joins, level_across, level_back, level_past, level_seen, matched, note_cmd, out_in, out_many, within};
+ghost use Rattle.port_match.specs.SmallScenes.{few_many, joins, level_across, level_back, level_past, level_seen, matched, note_cmd, out_in, out_many, stating, within};
 ghost use Rattle.port_match.specs.declared.fault.LinkKind.TheVariants.{UnknownApp, UnknownPort, Direction, Kind, Width, Unmapped, PairTwice, ContTwice};
 ghost use Rattle.port_match.specs.declared.fault.MatchFault.{MatchFault};
 ghost use Rattle.port_match.specs.declared.fault.MatchFault.TheVariants as faults;
@@ -23,12 +23,13 @@ pub fn first_faults()
 {}
 
 /// The links that connections make are links of a scene without a fault: one for each connection, between the ports that
-/// it names, with the width that it states. What a connection of a text can state lies within the limits of widths.
+/// it names, with the width, the latency and the number of blocks that it states. What a connection of a text can state lies
+/// within the limits of a link.
 pub fn made_links_stand()
     ensures stand { (apps : List AppDecl) (texts : List LinkText) (links : List Link) → links_of apps texts ≡ Ok links → AreLinks apps links }
     ensures as_named { (apps : List AppDecl) (texts : List LinkText) (links : List Link) → links_of apps texts ≡ Ok links → map (named apps) links ≡ texts }
     ensures as_many { (apps : List AppDecl) (texts : List LinkText) (links : List Link) → links_of apps texts ≡ Ok links → length links ≡ length texts }
-    ensures widths { (apps : List AppDecl) (texts : List LinkText) (links : List Link) → links_of apps texts ≡ Ok links → list_all is_link texts ≡ true → list_all (λ (link : Link). is_width link.width) links ≡ true }
+    ensures numbers { (apps : List AppDecl) (texts : List LinkText) (links : List Link) → links_of apps texts ≡ Ok links → list_all is_link texts ≡ true → list_all has_lawful_numbers links ≡ true }
 {}
 
 /// What connections make in a small scene: lawful ones, a fault of each kind, and the first of two.
@@ -42,12 +43,13 @@ pub fn small_scenes()
     ensures values_fan_out { matched (level_seen ∷ level_across ∷ []) ≡ Ok (link 0 2 0 3 ∷ link 0 2 1 3 ∷ []) }
     ensures messages { matched (note_cmd ∷ []) ≡ Ok (link 0 4 0 5 ∷ []) }
     ensures width { matched (within 4 out_in ∷ []) ≡ Ok (record (link 0 0 0 1) { width = Some 4 } ∷ []) }
+    ensures options { matched (stating 5 3 out_in ∷ []) ≡ Ok (record (link 0 0 0 1) { latency = Some 5; buffered = Some 3 } ∷ []) }
 
     // A fault of each kind.
-    ensures no_left_app { matched (joins (codes "nope") (codes "out") (codes "left") (codes "in") ∷ []) ≡ Err (faults.Link 0 UnknownApp) }
-    ensures no_right_app { matched (joins (codes "left") (codes "out") (codes "nope") (codes "in") ∷ []) ≡ Err (faults.Link 0 UnknownApp) }
-    ensures no_left_port { matched (joins (codes "left") (codes "nope") (codes "left") (codes "in") ∷ []) ≡ Err (faults.Link 0 UnknownPort) }
-    ensures no_right_port { matched (joins (codes "left") (codes "out") (codes "left") (codes "many") ∷ []) ≡ Err (faults.Link 0 UnknownPort) }
+    ensures unknown_sender { matched (joins (codes "nope") (codes "out") (codes "left") (codes "in") ∷ []) ≡ Err (faults.Link 0 UnknownApp) }
+    ensures unknown_receiver { matched (joins (codes "left") (codes "out") (codes "nope") (codes "in") ∷ []) ≡ Err (faults.Link 0 UnknownApp) }
+    ensures unknown_output { matched (joins (codes "left") (codes "nope") (codes "left") (codes "in") ∷ []) ≡ Err (faults.Link 0 UnknownPort) }
+    ensures unknown_input { matched (joins (codes "left") (codes "out") (codes "left") (codes "many") ∷ []) ≡ Err (faults.Link 0 UnknownPort) }
     ensures from_an_input { matched (joins (codes "left") (codes "in") (codes "right") (codes "many") ∷ []) ≡ Err (faults.Link 0 Direction) }
     ensures to_an_output { matched (joins (codes "left") (codes "out") (codes "right") (codes "few") ∷ []) ≡ Err (faults.Link 0 Direction) }
     ensures other_kind { matched (joins (codes "left") (codes "out") (codes "left") (codes "cmd") ∷ []) ≡ Err (faults.Link 0 Kind) }

@@ -67,10 +67,11 @@ fn read_link(
     }
 }
 
-/// The links that the connections make between ports of the applications, one for each connection, in their order.
+/// The links that the connections make between ports of the applications, one for each connection, in their order. A link has
+/// the width, the latency and the number of blocks that its connection states.
 ///
 /// The first faulty connection is the fault, by its place from 0, with the first of its kinds in the order of
-/// `LinkKind`: an end names no application, then no port of it; the left port is no output or the right one no input;
+/// `LinkKind`: an end names no application, then no port of it; the sender's port is no output or the receiver's no input;
 /// the ports differ in kind; a port maps an index that is not below the stated width; a continuous input maps an index
 /// that the output does not; an earlier connection joins the same two ports, or goes to the same continuous input. An
 /// output may feed many inputs, many outputs may feed an event or a message input, and a port may have no connection.

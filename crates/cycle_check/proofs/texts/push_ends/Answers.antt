@@ -1,17 +1,16 @@
-use Rattle.std.proofs.Common.{codes}
-use Rattle.scene_model.specs.Scenes.{app_at}
+use Rattle.std.proofs.Common.{map, codes}
+use Rattle.cycle_check.specs.CycleTexts.{name_at}
 use Rattle.cycle_check.proofs.JoinedLines.{joined_ends}
 use Rattle.cycle_check.proofs.texts.push_ends.Goals as goal
 
 pub returns : goal.returns
 returns c =
+    let names = map (λ name. name.now) c.args.names.now in
     rw (
       c.in_ok-extend_from_slice-3.ensures.items,
       c.in_ok-extend_from_slice-2.ensures.items,
       c.in_ok-extend_from_slice.ensures.items,
-      c.as_slice-2.ensures.bytes,
-      c.as_slice.ensures.bytes,
-      c.app-2.ensures,
-      c.app.ensures,
+      c.name_at-2.ensures,
+      c.name_at.ensures,
     )
-    (joined_ends c.args.text.now.items (app_at c.args.scene.now c.args.wait.now.waiter).name (codes " waits for ") (app_at c.args.scene.now c.args.wait.now.awaited).name)
+    (joined_ends c.args.text.now.items (name_at names c.args.wait.now.waiter) (codes " waits for ") (name_at names c.args.wait.now.awaited))

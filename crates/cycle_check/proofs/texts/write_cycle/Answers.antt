@@ -1,4 +1,4 @@
-use Rattle.std.proofs.Common.{◌≡◌, take, codes}
+use Rattle.std.proofs.Common.{◌≡◌, map, take, codes}
 use Rattle.std.proofs.lemmas.List.{take_all}
 use Rattle.music_base.specs.Lines.{ended}
 use Rattle.cycle_check.specs.CycleTexts.{cycle_text, wait_line}
@@ -13,7 +13,7 @@ push_wait-requires c =
 pub loop-wait-preserved : goal.loop-wait-preserved
 loop-wait-preserved c =
     rw (c.in_ok-push_wait.ensures, c.loop-wait.invariant)
-    (one_line_more (wait_line c.args.scene.now) (ended (codes "uncovered cycle")) c.as_slice-waits.result.now c.loop-wait.wait-index c.wait-item.result c.loop-wait-test.true c.wait-item.is)
+    (one_line_more (wait_line (map (λ name. name.now) c.args.names.now)) (ended (codes "uncovered cycle")) c.as_slice-waits.result.now c.loop-wait.wait-index c.wait-item.result c.loop-wait-test.true c.wait-item.is)
 
 pub push_sums-requires-clause-bounded : goal.push_sums-requires-clause-bounded
 push_sums-requires-clause-bounded c = rw c.as_slice-waits.ensures.value c.requires.bounded

@@ -30,4 +30,4 @@ returns-clause-lawful c =
     let past : length c.args.config.now.sections ≤ c.loop-place.place = omega (arith, c.len-place-end.ensures.len, c.loop-place-test.false) in
     let none : drop c.loop-place.place c.args.config.now.sections ≡ [] = drop_all c.loop-place.place c.args.config.now.sections past in
     let gave : apps_until c.args.config.now c.args.stop ≡ Ok c.loop-place.apps = sym (rw none at c.loop-place.invariant.read) in
-    apps_are c.args.config.now c.args.stop c.loop-place.apps c.len-place-end.ensures.lawful gave
+    apps_are c.args.config.now c.args.stop c.loop-place.apps c.len-place-end.ensures.lawful c.requires gave

@@ -7,12 +7,12 @@ pub returns-then-not-has_few_values-clause-fault : goal.returns-then-not-has_few
 unfolding parts_in
 returns-then-not-has_few_values-clause-fault c =
     let rules = rw c.as_slice.ensures at c.in_ok-rules.ensures.rules in
-    let few = rw (c.as_slice-2.ensures, c.steps_of.ensures.steps, c.if-not-has_few_values.true) at c.has_few_values.ensures in
+    let few = rw (c.as_slice-2.ensures, c.steps_in.ensures, c.if-not-has_few_values.true) at c.has_few_values.ensures in
     rw (← c.in_ok-setting.ensures, c.in_ok-ports.ensures.ports, ← c.in_ok-args.ensures, rules, ← few) refl
 
 pub returns-clause-parts : goal.returns-clause-parts
 unfolding parts_in
 returns-clause-parts c =
     let rules = rw c.as_slice.ensures at c.in_ok-rules.ensures.rules in
-    let few = rw (c.as_slice-2.ensures, c.steps_of.ensures.steps, c.if-not-has_few_values.false) at c.has_few_values.ensures in
+    let few = rw (c.as_slice-2.ensures, c.steps_in.ensures, c.if-not-has_few_values.false) at c.has_few_values.ensures in
     rw (← c.in_ok-setting.ensures, c.in_ok-ports.ensures.ports, ← c.in_ok-args.ensures, rules, ← few) refl

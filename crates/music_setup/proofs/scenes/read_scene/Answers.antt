@@ -6,7 +6,7 @@ pub match_links-requires-clause-apps : goal.match_links-requires-clause-apps
 match_links-requires-clause-apps c = rw c.as_slice.ensures c.in_ok-stop.ensures.lawful.few
 
 pub match_links-requires-clause-ports : goal.match_links-requires-clause-ports
-match_links-requires-clause-ports c = rw c.as_slice.ensures (few_ports c.in_ok-stop.stop c.in_ok-stop.apps c.in_ok-stop.ensures.lawful)
+match_links-requires-clause-ports c = rw c.as_slice.ensures (few_ports c.in_ok-stop.apps c.in_ok-stop.ensures.lawful)
 
 pub returns-clause-scene : goal.returns-clause-scene
 returns-clause-scene c =
