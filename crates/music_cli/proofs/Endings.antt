@@ -1,42 +1,18 @@
 -- What each way to end says of the status and of the text.
-use Rattle.std.proofs.Common.{◌≡◌, ◌&&◌, ◌⊎◌, ℕ, ◌<◌, ◌≤◌, lit<, Bool, true, false, List, [], ◌++◌, length, take, Option, Some, None, Ok, Err, refl, sym, ap, subst, ◌∙◌, inl, inr, arith, append-nil}
-use Rattle.std.specs.Prelude.{Result, IsOk, IfOk, is_some, Contains}
-use Rattle.std.proofs.lemmas.Bool.{and_parts, cases_lt}
+use Rattle.std.proofs.Common.{◌≡◌, ◌⊎◌, ℕ, ◌<◌, ◌≤◌, lit<, Bool, true, false, List, [], ◌++◌, length, take, Option, Some, None, refl, sym, ap, subst, ◌∙◌, inl, inr, arith, append-nil}
+use Rattle.std.specs.Prelude.{◌≢◌, is_some, Contains}
+use Rattle.std.proofs.lemmas.Bool.{cases_lt}
 use Rattle.std.proofs.lemmas.List.{take_all}
 use Rattle.std.proofs.Math.Seq.{take-append_seam}
 use Rattle.music_base.specs.Outside.{Gave, GaveAtMost, TookPrefix, IsAtEnd}
 use Rattle.music_base.proofs.Transfers.{TookPrefix-nothing}
-use Rattle.config_text.specs.Canon.{is_lawful_config}
-use Rattle.plain_run.specs.FirstForm.{first_form}
-use Rattle.config_text.specs.Lawful.{are_links, are_sections, are_settings}
-use Rattle.config_text.specs.Text.{Spells}
-use Rattle.config_text.specs.declared.config.Config.{Config}
-use Rattle.config_text.proofs.OneReading.{some_reading, apart}
-use Rattle.config_text.proofs.SpelledLaws.{spelled_lawful}
-use Rattle.plain_run.specs.declared.form.FirstForm.{FirstForm}
-use Rattle.config_text.specs.declared.text_kind.TextKind.{TextKind}
-use Rattle.scene_model.specs.Faults.{IsFaultless}
-use Rattle.scene_model.specs.Logs.{log_of}
-use Rattle.scene_model.specs.Waits.{IsAccepted}
-use Rattle.scene_model.specs.declared.scene.Scene.{Scene}
-use Rattle.scene_model.proofs.AcceptedOrReportable.{accepted_is_live, accepted_or_reportable, not_both}
-use Rattle.cycle_check.specs.CycleTexts.{cycle_text}
-use Rattle.music_setup.specs.Scenes.{scene_of}
-use Rattle.music_setup.specs.Texts.{text_of_fault}
-use Rattle.music_setup.specs.declared.fault.SetupFault.{SetupFault}
-use Rattle.music_setup.specs.declared.fault.SetupFault.TheVariants as setup
-use Rattle.music_setup.specs.Setups.{IsConfigFault}
-use Rattle.music_setup.proofs.Faultless.{scene_is_faultless}
-use Rattle.music_setup.proofs.NamedCycles.{text_of_scene}
-use Rattle.plain_run.specs.Plain as plain
-use Rattle.music_cli.specs.PlanTexts.{plan_text}
 use Rattle.music_cli.specs.Words.{command_of, are_accepted}
-use Rattle.music_cli.specs.Answers.{AnswersFault, AnswersUncovered, AnswersChecked, AnswersPlanned, AnswersScene, AnswersForm, AnswersConfig, AnswersText, AnswersCommand, Answers, CanDo, CanDoWith, number_of, status_of, outcomes_of, scene_outcomes, usage_text, read_fault_text, ok_text}
-use Rattle.music_cli.specs.Clauses.{Ends, ends, Untouched, Wrote, most_read, read_part, IsStatus, IsUsage, AnswersWhatWasRead, ReadAllThatCounts, WasRead, HasSomePrefix, HasAnswer, HasPrefix, IsComplete, IsSaid, IsGiven, IsRead, Ended, refused, source_failed, no_memory, answered}
-use Rattle.music_cli.specs.declared.command_line.Command.{Command}
-use Rattle.music_cli.specs.declared.command_line.Command.TheVariants.{Check, Plan, Run}
+use Rattle.music_cli.specs.Answers.{AnswersCommand, Answers, CanDo, number_of, outcomes_of, usage_text, read_fault_text}
+use Rattle.music_cli.specs.Clauses.{Ends, DidNotFail, NotUsage, HasReadFaultCause, HasWriteFaultCause, ShowsFaults, Untouched, Wrote, most_read, read_part, IsStatus, IsUsage, AnswersWhatWasRead, ReadAllThatCounts, WasRead, HasSomePrefix, HasAnswer, HasPrefix, IsComplete, IsSaid, IsRead, Ended, refused, source_failed, no_memory, answered}
+use Rattle.music_cli.proofs.SomeAnswers.{some_answer, text_done, usage_answer}
+use Rattle.music_cli.proofs.Outcomes.{answer_outcome, memory_outcome, no_failure, read_fault_outcome, usage_outcome, write_fault_outcome}
 use Rattle.music_cli.specs.declared.status.Status.{Status}
-use Rattle.music_cli.specs.declared.status.Status.TheVariants.{Done, Usage, TextFault, CycleFault, ReadFault, WriteFault, NoMemory}
+use Rattle.music_cli.specs.declared.status.Status.TheVariants.{Done, Usage, ReadFault, WriteFault, NoMemory}
 
 -- ---- what was read
 
@@ -66,235 +42,6 @@ pub reads_nothing : (most : ℕ) (left : Option (List ℕ)) → GaveAtMost most 
 reads_nothing most None = ([], (refl, omega arith))
 reads_nothing most (Some left) = ([], (refl, omega arith))
 
--- ---- answers
-
-form_answer : (found : Result FirstForm (ℕ × TextKind)) → (status : Status) × (text : List ℕ) × AnswersForm found status text
-form_answer (Ok form) = (Done, log_of (plain.scene_of form), (refl, refl))
-form_answer (Err fault) = (TextFault, text_of_fault None (setup.Text fault.0 fault.1), (refl, refl))
-
-checked_answer : (scene : Scene) → IsFaultless scene → (status : Status) × (text : List ℕ) × AnswersChecked scene status text
-checked_answer scene faultless = elim (accepted_or_reportable scene faultless) [
-  | inl accepted ↦ (Done, ok_text scene, inr (accepted, (refl, refl)))
-  | inr told ↦ (CycleFault, cycle_text scene told.0, inl (told.0, told.1, refl, refl))
-]
-
-planned_answer : (scene : Scene) → IsFaultless scene → (status : Status) × (text : List ℕ) × AnswersPlanned scene status text
-planned_answer scene faultless = elim (accepted_or_reportable scene faultless) [
-  | inl accepted ↦
-      let live = accepted_is_live scene faultless accepted in
-      (Done, plan_text scene live.0, inr (accepted, live.0, live.1, (refl, refl)))
-  | inr told ↦ (CycleFault, cycle_text scene told.0, inl (told.0, told.1, refl, refl))
-]
-
--- each scene without a fault has such an answer
-abbrev HasAnswers : (Scene → Status → List ℕ → Type 0) → Type 0
-HasAnswers of_scene = (scene : Scene) → IsFaultless scene → (status : Status) × (text : List ℕ) × of_scene scene status text
-
-scene_answer : (of_scene : Scene → Status → List ℕ → Type 0) (config : Config) (found : Result Scene SetupFault) → HasAnswers of_scene → IfOk found IsFaultless
-    → (status : Status) × (text : List ℕ) × AnswersScene of_scene config found status text
-scene_answer of_scene config (Ok scene) answer faultless = answer scene faultless
-scene_answer of_scene config (Err fault) answer faultless = (status_of fault, text_of_fault (Some config) fault, (refl, refl))
-
--- the scene that a lawful configuration describes, if any, has no fault
-pub lawful_is_faultless : (config : Config) → is_lawful_config config ≡ true → IfOk (scene_of config) IsFaultless
-unfolding is_lawful_config
-lawful_is_faultless config lawful =
-    let parts = and_parts (are_settings config.defaults && are_sections config.sections) (are_links config.links) lawful in
-    let front = and_parts (are_settings config.defaults) (are_sections config.sections) parts.0 in
-    go (scene_of config) (λ scene gave. scene_is_faultless config scene front.1 parts.1 gave)
-  where
-    go : (found : Result Scene SetupFault) → ((scene : Scene) → found ≡ Ok scene → IsFaultless scene) → IfOk found IsFaultless
-    go (Ok scene) each = each scene refl
-    go (Err fault) each = tt
-
-config_answer : (command : Command) (config : Config) (bytes : List ℕ) → is_lawful_config config ≡ true → (status : Status) × (text : List ℕ) × AnswersConfig command config bytes status text
-config_answer Check config bytes lawful = scene_answer AnswersChecked config (scene_of config) checked_answer (lawful_is_faultless config lawful)
-config_answer Plan config bytes lawful = scene_answer AnswersPlanned config (scene_of config) planned_answer (lawful_is_faultless config lawful)
-config_answer Run config bytes lawful = form_answer (first_form bytes)
-
-right_answer : (command : Command) (bytes : List ℕ) (config : Config) → Spells config bytes → (status : Status) × (text : List ℕ) × AnswersText command bytes status text
-right_answer command bytes config spells =
-    let answer = config_answer command config bytes (spelled_lawful bytes config spells) in
-    (answer.0, answer.1, inr (config, spells, answer.2))
-
-text_answer : (command : Command) (bytes : List ℕ) → (status : Status) × (text : List ℕ) × AnswersText command bytes status text
-text_answer command bytes = elim (some_reading bytes) [
-  | inl right ↦ right_answer command bytes right.0 right.1
-  | inr faulty ↦ (TextFault, text_of_fault None (setup.Text faulty.0 faulty.1), inl (faulty.0, faulty.1, faulty.2, (refl, refl)))
-]
-
--- each words and bytes have an answer
-some_answer : (command : Option Command) (bytes : List ℕ) → (status : Status) × (text : List ℕ) × AnswersCommand command bytes status text
-some_answer None bytes = (Usage, usage_text, (refl, refl))
-some_answer (Some command) bytes = text_answer command bytes
-
-usage_answer : (command : Option Command) (bytes : List ℕ) → is_some command ≡ false → AnswersCommand command bytes Usage usage_text
-usage_answer None bytes none = (refl, refl)
-usage_answer (Some command) bytes none = absurd cc
-
--- ---- what can be done is done
-
-form_done : (found : Result FirstForm (ℕ × TextKind)) (status : Status) (text : List ℕ) → IsOk found → AnswersForm found status text → status ≡ Done
-form_done (Ok form) status text ok answers = answers.0
-form_done (Err fault) status text ok answers = absurd cc
-
--- an accepted scene has no cycle that can be reported
-checked_done : (scene : Scene) (status : Status) (text : List ℕ) → IsAccepted scene → AnswersChecked scene status text → status ≡ Done
-checked_done scene status text accepted answers = elim answers [
-  | inl uncovered ↦ absurd (not_both scene uncovered.0 accepted uncovered.1)
-  | inr done ↦ done.1.0
-]
-
-planned_done : (scene : Scene) (status : Status) (text : List ℕ) → IsAccepted scene → AnswersPlanned scene status text → status ≡ Done
-planned_done scene status text accepted answers = elim answers [
-  | inl uncovered ↦ absurd (not_both scene uncovered.0 accepted uncovered.1)
-  | inr done ↦ done.3.0
-]
-
--- of an accepted scene all answers are that something is done
-abbrev AreDone : (Scene → Status → List ℕ → Type 0) → Type 0
-AreDone of_scene = (scene : Scene) (status : Status) (text : List ℕ) → IsAccepted scene → of_scene scene status text → status ≡ Done
-
-scene_done : (of_scene : Scene → Status → List ℕ → Type 0) (config : Config) (found : Result Scene SetupFault) (status : Status) (text : List ℕ) → AreDone of_scene
-    → (scene : Scene) → found ≡ Ok scene → IsAccepted scene → AnswersScene of_scene config found status text → status ≡ Done
-scene_done of_scene config (Ok found) status text done scene is accepted answers =
-    let same : found ≡ scene = cc in
-    done found status text (subst IsAccepted (sym same) accepted) answers
-scene_done of_scene config (Err fault) status text done scene is accepted answers = absurd cc
-
-config_done : (command : Command) (config : Config) (bytes : List ℕ) (status : Status) (text : List ℕ) → CanDoWith command config bytes → AnswersConfig command config bytes status text → status ≡ Done
-config_done Check config bytes status text can answers = scene_done AnswersChecked config (scene_of config) status text checked_done can.0 can.1 can.2 answers
-config_done Plan config bytes status text can answers = scene_done AnswersPlanned config (scene_of config) status text planned_done can.0 can.1 can.2 answers
-config_done Run config bytes status text can answers = form_done (first_form bytes) status text can answers
-
--- a text spells one configuration
-text_done : (command : Command) (bytes : List ℕ) (status : Status) (text : List ℕ) → CanDo command bytes → AnswersText command bytes status text → status ≡ Done
-text_done command bytes status text can answers = elim answers [
-  | inl faulty ↦ absurd (apart bytes can.0 faulty.0 faulty.1 can.1 faulty.2)
-  | inr right ↦
-      let same : can.0 ≡ right.0 = can.1.is ∙ sym right.1.is in
-      config_done command right.0 bytes status text (subst (λ (config : Config). CanDoWith command config bytes) same can.2) right.2
-]
-
--- ---- which outcomes can come
-
-form_outcome : (found : Result FirstForm (ℕ × TextKind)) (status : Status) (text : List ℕ) → AnswersForm found status text → Contains (outcomes_of (Some Run)) status
-form_outcome (Ok form) status text answers = (0, lit< tt, sym answers.0)
-form_outcome (Err fault) status text answers = (1, lit< tt, sym answers.0)
-
-fault_outcome : (fault : SetupFault) (status : Status) → status ≡ status_of fault → Contains scene_outcomes status
-fault_outcome (setup.Text line kind) status is = (1, lit< tt, sym is)
-fault_outcome (setup.Scene fault) status is = (2, lit< tt, sym is)
-fault_outcome (setup.Link place what) status is = (2, lit< tt, sym is)
-fault_outcome (setup.Uncovered cycle) status is = (3, lit< tt, sym is)
-fault_outcome setup.Memory status is = (6, lit< tt, sym is)
-
-checked_outcome : (scene : Scene) (status : Status) (text : List ℕ) → AnswersChecked scene status text → Contains scene_outcomes status
-checked_outcome scene status text answers = elim answers [
-  | inl uncovered ↦ (3, lit< tt, sym uncovered.2)
-  | inr done ↦ (0, lit< tt, sym done.1.0)
-]
-
-planned_outcome : (scene : Scene) (status : Status) (text : List ℕ) → AnswersPlanned scene status text → Contains scene_outcomes status
-planned_outcome scene status text answers = elim answers [
-  | inl uncovered ↦ (3, lit< tt, sym uncovered.2)
-  | inr done ↦ (0, lit< tt, sym done.3.0)
-]
-
-scene_outcome : (of_scene : Scene → Status → List ℕ → Type 0) (config : Config) (found : Result Scene SetupFault) (status : Status) (text : List ℕ)
-    → ((scene : Scene) → of_scene scene status text → Contains scene_outcomes status) → AnswersScene of_scene config found status text → Contains scene_outcomes status
-scene_outcome of_scene config (Ok scene) status text outcome answers = outcome scene answers
-scene_outcome of_scene config (Err fault) status text outcome answers = fault_outcome fault status answers.0
-
-config_outcome : (command : Command) (config : Config) (bytes : List ℕ) (status : Status) (text : List ℕ) → AnswersConfig command config bytes status text → Contains (outcomes_of (Some command)) status
-config_outcome Check config bytes status text answers = scene_outcome AnswersChecked config (scene_of config) status text (λ scene is. checked_outcome scene status text is) answers
-config_outcome Plan config bytes status text answers = scene_outcome AnswersPlanned config (scene_of config) status text (λ scene is. planned_outcome scene status text is) answers
-config_outcome Run config bytes status text answers = form_outcome (first_form bytes) status text answers
-
-text_fault_outcome : (command : Command) (status : Status) → status ≡ TextFault → Contains (outcomes_of (Some command)) status
-text_fault_outcome Check status is = (1, lit< tt, sym is)
-text_fault_outcome Plan status is = (1, lit< tt, sym is)
-text_fault_outcome Run status is = (1, lit< tt, sym is)
-
-answer_outcome : (command : Option Command) (bytes : List ℕ) (status : Status) (text : List ℕ) → AnswersCommand command bytes status text → Contains (outcomes_of command) status
-answer_outcome None bytes status text answers = (0, lit< tt, sym answers.0)
-answer_outcome (Some command) bytes status text answers = elim answers [
-  | inl faulty ↦ text_fault_outcome command status faulty.3.0
-  | inr right ↦ config_outcome command right.0 bytes status text right.2
-]
-
-write_fault_outcome : (command : Option Command) → Contains (outcomes_of command) WriteFault
-write_fault_outcome None = (1, lit< tt, refl)
-write_fault_outcome (Some Check) = (5, lit< tt, refl)
-write_fault_outcome (Some Plan) = (5, lit< tt, refl)
-write_fault_outcome (Some Run) = (3, lit< tt, refl)
-
-read_fault_outcome : (command : Option Command) → is_some command ≡ true → Contains (outcomes_of command) ReadFault
-read_fault_outcome None some = absurd cc
-read_fault_outcome (Some Check) some = (4, lit< tt, refl)
-read_fault_outcome (Some Plan) some = (4, lit< tt, refl)
-read_fault_outcome (Some Run) some = (2, lit< tt, refl)
-
-memory_outcome : (command : Option Command) → is_some command ≡ true → Contains (outcomes_of command) NoMemory
-memory_outcome None some = absurd cc
-memory_outcome (Some Check) some = (6, lit< tt, refl)
-memory_outcome (Some Plan) some = (6, lit< tt, refl)
-memory_outcome (Some Run) some = (4, lit< tt, refl)
-
--- ---- an answer that was given
-
--- where memory gave out before anything was written
-given_none : (P : Status → List ℕ → Type 0) (before : Option (List ℕ)) (faults : ℕ) → ((status : Status) × (text : List ℕ) × P status text) → IsGiven P (ends before before faults faults) NoMemory
-given_none P before faults answer = record { status = answer.0; text = answer.1; found_so = answer.2; cases = inr (inr refl); prefix = TookPrefix-nothing before answer.1 }
-
-pub form_no_memory : (found : Result FirstForm (ℕ × TextKind)) (before : Option (List ℕ)) (faults : ℕ) → IsGiven (AnswersForm found) (ends before before faults faults) NoMemory
-form_no_memory found before faults = given_none (AnswersForm found) before faults (form_answer found)
-
--- where memory gave out before the scene was read
-pub checked_no_memory : (config : Config) (before : Option (List ℕ)) (faults : ℕ) → is_lawful_config config ≡ true
-    → IsGiven (AnswersScene AnswersChecked config (scene_of config)) (ends before before faults faults) NoMemory
-checked_no_memory config before faults lawful =
-    given_none (AnswersScene AnswersChecked config (scene_of config)) before faults (scene_answer AnswersChecked config (scene_of config) checked_answer (lawful_is_faultless config lawful))
-
-pub planned_no_memory : (config : Config) (before : Option (List ℕ)) (faults : ℕ) → is_lawful_config config ≡ true
-    → IsGiven (AnswersScene AnswersPlanned config (scene_of config)) (ends before before faults faults) NoMemory
-planned_no_memory config before faults lawful =
-    given_none (AnswersScene AnswersPlanned config (scene_of config)) before faults (scene_answer AnswersPlanned config (scene_of config) planned_answer (lawful_is_faultless config lawful))
-
-pub text_no_memory : (command : Command) (bytes : List ℕ) (before : Option (List ℕ)) (faults : ℕ) → IsGiven (AnswersText command bytes) (ends before before faults faults) NoMemory
-text_no_memory command bytes before faults = given_none (AnswersText command bytes) before faults (text_answer command bytes)
-
--- ---- what is said of a configuration
-
--- the scene that it describes is answered
-pub of_described : (of_scene : Scene → Status → List ℕ → Type 0) (config : Config) (scene : Scene) (status : Status) (text : List ℕ) → scene_of config ≡ Ok scene → of_scene scene status text
-    → AnswersScene of_scene config (scene_of config) status text
-of_described of_scene config scene status text describes is = rw describes is
-
--- its fault is answered; a cycle is one of its scene
-pub of_refused : (of_scene : Scene → Status → List ℕ → Type 0) (config : Config) (fault : SetupFault) (status : Status) (text : List ℕ)
-    → ((scene : Scene) → AnswersUncovered scene status text → of_scene scene status text) → IsConfigFault config fault → (fault ≡ setup.Memory → ⊥) → AnswersFault (Some config) fault status text
-    → AnswersScene of_scene config (scene_of config) status text
-unfolding text_of_fault
-of_refused of_scene config (setup.Text line kind) status text uncovered is some answers = absurd is
-of_refused of_scene config (setup.Scene fault) status text uncovered is some answers = rw is answers
-of_refused of_scene config (setup.Link place what) status text uncovered is some answers = rw is answers
-of_refused of_scene config (setup.Uncovered cycle) status text uncovered is some answers =
-    rw is.1 (uncovered is.0 (cycle.0.items, is.2, answers.0, answers.1 ∙ text_of_scene config is.0 cycle.0.items is.1))
-of_refused of_scene config setup.Memory status text uncovered is some answers = absurd (some refl)
-
--- an answer that was given is one of each kind that it belongs to
-pub given_as : (P Q : Status → List ℕ → Type 0) (sink : Ends) (result : Status) → ((status : Status) (text : List ℕ) → P status text → Q status text) → IsGiven P sink result → IsGiven Q sink result
-given_as P Q sink result more given =
-    record { status = given.status; text = given.text; found_so = more given.status given.text given.found_so; cases = given.cases; prefix = given.prefix }
-
--- what a command gave to what was read, it gave to the words
-pub given_to_words : (command : Command) (words : List (List ℕ)) (bytes read : List ℕ) (sink : Ends) (result : Status) → read ≡ bytes → command_of words ≡ Some command
-    → IsGiven (AnswersText command read) sink result → IsGiven (Answers words bytes) sink result
-given_to_words command words bytes read sink result same is given =
-    let Given : Option Command → Type 0 = λ command. IsGiven (AnswersCommand command bytes) sink result in
-    subst Given (sym is) (rw same at given)
-
 -- ---- the clauses
 
 outcome_of_said : (words : List (List ℕ)) (said : Status) (text : List ℕ) (sink : Ends) (status : Status) → Contains (outcomes_of (command_of words)) said → IsSaid said text sink status
@@ -304,19 +51,15 @@ outcome_of_said words said text sink status can is = elim is.cases [
   | inr fault ↦ subst (Contains (outcomes_of (command_of words))) (sym fault.0) (write_fault_outcome (command_of words))
 ]
 
-usage_outcome : (command : Option Command) → is_some command ≡ false → Contains (outcomes_of command) Usage
-usage_outcome None none = (0, lit< tt, refl)
-usage_outcome (Some command) none = absurd cc
-
 outcome : (words : List (List ℕ)) (source sink : Ends) (status : Status) → Ended words source sink status → Contains (outcomes_of (command_of words)) status
 outcome words source sink status (refused not_so untouched said) = outcome_of_said words Usage usage_text sink status (usage_outcome (command_of words) not_so) said
 outcome words source sink status (source_failed accepted failed said) = outcome_of_said words ReadFault read_fault_text sink status (read_fault_outcome (command_of words) accepted) said
-outcome words source sink status (no_memory accepted memory same) = subst (Contains (outcomes_of (command_of words))) (sym memory) (memory_outcome (command_of words) accepted)
+outcome words source sink status (no_memory accepted memory calm same) = subst (Contains (outcomes_of (command_of words))) (sym memory) (memory_outcome (command_of words) accepted)
 outcome words source sink status (answered accepted bytes read given) = elim given.cases [
   | inl done ↦ subst (Contains (outcomes_of (command_of words))) (sym done.0) (answer_outcome (command_of words) bytes given.status given.text given.found_so)
   | inr gave_out ↦ elim gave_out [
     | inl fault ↦ subst (Contains (outcomes_of (command_of words))) (sym fault.0) (write_fault_outcome (command_of words))
-    | inr memory ↦ subst (Contains (outcomes_of (command_of words))) (sym memory) (memory_outcome (command_of words) accepted)
+    | inr memory ↦ subst (Contains (outcomes_of (command_of words))) (sym memory.0) (memory_outcome (command_of words) accepted)
   ]
 ]
 
@@ -362,12 +105,12 @@ whole words source sink status (source_failed accepted failed said) small = elim
   | inl done ↦ absurd (too_great status ReadFault done.0 (lit< tt) small)
   | inr fault ↦ absurd (too_great status WriteFault fault.0 (lit< tt) small)
 ]
-whole words source sink status (no_memory accepted memory same) small = absurd (too_great status NoMemory memory (lit< tt) small)
+whole words source sink status (no_memory accepted memory calm same) small = absurd (too_great status NoMemory memory (lit< tt) small)
 whole words source sink status (answered accepted bytes read given) small = elim given.cases [
   | inl done ↦ inr (record { accepted_so = accepted; bytes = bytes; read = read; found = given.status; text = given.text; is = ap number_of done.0; answers = given.found_so; wrote = done.1 })
   | inr gave_out ↦ elim gave_out [
     | inl fault ↦ absurd (too_great status WriteFault fault.0 (lit< tt) small)
-    | inr memory ↦ absurd (too_great status NoMemory memory (lit< tt) small)
+    | inr memory ↦ absurd (too_great status NoMemory memory.0 (lit< tt) small)
   ]
 ]
 
@@ -383,9 +126,9 @@ pub has_prefix : (words : List (List ℕ)) (source sink : Ends) (status : Status
 has_prefix words source sink status (refused not_so untouched said) all is gave_out =
     (usage_text, inl (Usage, usage_answer (command_of words) (read_part all) not_so), said.prefix)
 has_prefix words source sink status (source_failed accepted failed said) all is gave_out = (read_fault_text, inr (refl, failed), said.prefix)
-has_prefix words source sink status (no_memory accepted memory same) all is gave_out =
+has_prefix words source sink status (no_memory accepted memory calm same) all is gave_out =
     let answer : (status : Status) × (text : List ℕ) × Answers words (read_part all) status text = some_answer (command_of words) (read_part all) in
-    (answer.1, inl (answer.0, answer.2), subst (λ (after : Option (List ℕ)). TookPrefix sink.before answer.1 after) (sym same) (TookPrefix-nothing sink.before answer.1))
+    (answer.1, inl (answer.0, answer.2), subst (λ (after : Option (List ℕ)). TookPrefix sink.before answer.1 after) (sym same.0) (TookPrefix-nothing sink.before answer.1))
 has_prefix words source sink status (answered accepted bytes read given) all is gave_out =
     let e : bytes ≡ read_part all = read_is source bytes all read is in
     (given.text, inl (given.status, subst (λ (b : List ℕ). Answers words b given.status given.text) e given.found_so), given.prefix)
@@ -394,14 +137,14 @@ pub is_complete : (words : List (List ℕ)) (source sink : Ends) (status : Statu
 is_complete words source sink status (refused not_so untouched said) command all named is can calm_source calm_sink =
     absurd (not_both_so (are_accepted words) (ap is_some named) not_so)
 is_complete words source sink status (source_failed yes_accepted failed said) command all named is can calm_source calm_sink = absurd (calm_source failed)
-is_complete words source sink status (no_memory yes_accepted memory same) command all named is can calm_source calm_sink = inr (ap number_of memory)
+is_complete words source sink status (no_memory yes_accepted memory calm same) command all named is can calm_source calm_sink = inr (ap number_of memory)
 is_complete words source sink status (answered yes_accepted bytes read given) command all named is can calm_source calm_sink =
     let e : bytes ≡ read_part all = read_is source bytes all read is in
     let answers : AnswersCommand (Some command) bytes given.status given.text = rw named at given.found_so in
     let done_so : given.status ≡ Done = text_done command bytes given.status given.text (subst (CanDo command) (sym e) can) answers in
     elim given.cases [
       | inl done ↦ inl (ap number_of (done.0 ∙ done_so))
-      | inr gave_out ↦ elim gave_out [ inl fault ↦ absurd (calm_sink fault.1) | inr memory ↦ inr (ap number_of memory) ]
+      | inr gave_out ↦ elim gave_out [ inl fault ↦ absurd (calm_sink fault.1) | inr memory ↦ inr (ap number_of memory.0) ]
     ]
 
 -- refused words get the usage line, or a prefix of it
@@ -411,7 +154,7 @@ is_usage words source sink status (refused not_so untouched said) not_accepted =
   | inr fault ↦ (inr (ap number_of fault.0, said.prefix), untouched)
 ]
 is_usage words source sink status (source_failed yes_accepted failed said) not_accepted = absurd (not_both_so (are_accepted words) yes_accepted not_accepted)
-is_usage words source sink status (no_memory yes_accepted memory same) not_accepted = absurd (not_both_so (are_accepted words) yes_accepted not_accepted)
+is_usage words source sink status (no_memory yes_accepted memory calm same) not_accepted = absurd (not_both_so (are_accepted words) yes_accepted not_accepted)
 is_usage words source sink status (answered yes_accepted bytes read given) not_accepted = absurd (not_both_so (are_accepted words) yes_accepted not_accepted)
 
 -- accepted words get an answer to what was read
@@ -424,7 +167,7 @@ answers_what_was_read words source sink status ended accepted small = elim (whol
 untouched_if : (words : List (List ℕ)) (source sink : Ends) (status : Status) → Ended words source sink status → are_accepted words ≡ false → Untouched source
 untouched_if words source sink status (refused not_so untouched said) not_accepted = untouched
 untouched_if words source sink status (source_failed yes_accepted failed said) not_accepted = absurd (not_both_so (are_accepted words) yes_accepted not_accepted)
-untouched_if words source sink status (no_memory yes_accepted memory same) not_accepted = absurd (not_both_so (are_accepted words) yes_accepted not_accepted)
+untouched_if words source sink status (no_memory yes_accepted memory calm same) not_accepted = absurd (not_both_so (are_accepted words) yes_accepted not_accepted)
 untouched_if words source sink status (answered yes_accepted bytes read given) not_accepted = absurd (not_both_so (are_accepted words) yes_accepted not_accepted)
 
 at_end_or_most : (source : Ends) (bytes : List ℕ) → IsRead bytes source → ReadAllThatCounts source
@@ -446,7 +189,96 @@ was_read words source sink status ended = record {
 pub some_prefix : (words : List (List ℕ)) (source sink : Ends) (status : Status) → Ended words source sink status → HasSomePrefix words source sink (number_of status)
 some_prefix words source sink status (refused not_so untouched said) accepted gave_out = absurd (not_both_so (are_accepted words) accepted not_so)
 some_prefix words source sink status (source_failed yes_accepted failed said) accepted gave_out = (read_fault_text, inr (inl (refl, failed)), said.prefix)
-some_prefix words source sink status (no_memory yes_accepted memory same) accepted gave_out =
-    ([], inr (inr (refl, ap number_of memory)), subst (λ (after : Option (List ℕ)). TookPrefix sink.before [] after) (sym same) (TookPrefix-nothing sink.before []))
+some_prefix words source sink status (no_memory yes_accepted memory calm same) accepted gave_out =
+    ([], inr (inr (refl, ap number_of memory)), subst (λ (after : Option (List ℕ)). TookPrefix sink.before [] after) (sym same.0) (TookPrefix-nothing sink.before []))
 some_prefix words source sink status (answered yes_accepted bytes read given) accepted gave_out =
     (given.text, inl (bytes, read, given.status, given.found_so), given.prefix)
+
+-- ---- faults of the outside
+
+-- a text that was said with a status other than that of usage
+said_no_usage : (status result : Status) (text : List ℕ) (sink : Ends) → IsSaid status text sink result → number_of status ≢ 2 → number_of result ≢ 2
+said_no_usage status result text sink said other two = elim said.cases [
+  | inl done ↦ other (sym (ap number_of done.0) ∙ two)
+  | inr fault ↦ let seven : number_of result ≡ 7 = ap number_of fault.0 in omega (arith, seven, two)
+]
+
+-- accepted words never get the status of refused ones
+pub not_usage : (words : List (List ℕ)) (source sink : Ends) (status : Status) → Ended words source sink status → NotUsage words (number_of status)
+not_usage words source sink status (refused not_so untouched said) accepted two = not_both_so (are_accepted words) accepted not_so
+not_usage words source sink status (source_failed some failed said) accepted two = said_no_usage ReadFault status read_fault_text sink said (λ e. omega (arith, e)) two
+not_usage words source sink status (no_memory some memory calm same) accepted two = let eight : number_of status ≡ 8 = ap number_of memory in omega (arith, eight, two)
+not_usage words source sink status (answered some bytes read given) accepted two = elim given.cases [
+  | inl done ↦ (no_failure (command_of words) bytes given.status given.text accepted given.found_so).0 (sym (ap number_of done.0) ∙ two)
+  | inr gave_out ↦ elim gave_out [
+    | inl fault ↦ let seven : number_of status ≡ 7 = ap number_of fault.0 in omega (arith, seven, two)
+    | inr memory ↦ let eight : number_of status ≡ 8 = ap number_of memory.0 in omega (arith, eight, two)
+  ]
+]
+
+-- a read fault is one of the source, and is written
+pub read_fault_cause : (words : List (List ℕ)) (source sink : Ends) (status : Status) → Ended words source sink status → HasReadFaultCause words source sink (number_of status)
+read_fault_cause words source sink status (refused not_so untouched said) six = elim said.cases [
+  | inl done ↦ let two : number_of status ≡ 2 = ap number_of done.0 in absurd (omega (arith, two, six))
+  | inr fault ↦ let seven : number_of status ≡ 7 = ap number_of fault.0 in absurd (omega (arith, seven, six))
+]
+read_fault_cause words source sink status (source_failed some failed said) six = elim said.cases [
+  | inl done ↦ (some, failed, done.1)
+  | inr fault ↦ let seven : number_of status ≡ 7 = ap number_of fault.0 in absurd (omega (arith, seven, six))
+]
+read_fault_cause words source sink status (no_memory some memory calm same) six = let eight : number_of status ≡ 8 = ap number_of memory in absurd (omega (arith, eight, six))
+read_fault_cause words source sink status (answered some bytes read given) six = elim given.cases [
+  | inl done ↦ absurd ((no_failure (command_of words) bytes given.status given.text some given.found_so).1 (sym (ap number_of done.0) ∙ six))
+  | inr gave_out ↦ elim gave_out [
+    | inl fault ↦ let seven : number_of status ≡ 7 = ap number_of fault.0 in absurd (omega (arith, seven, six))
+    | inr memory ↦ let eight : number_of status ≡ 8 = ap number_of memory.0 in absurd (omega (arith, eight, six))
+  ]
+]
+
+-- a write fault is one of the sink
+pub write_fault_cause : (words : List (List ℕ)) (source sink : Ends) (status : Status) → Ended words source sink status → HasWriteFaultCause sink (number_of status)
+write_fault_cause words source sink status (refused not_so untouched said) seven = elim said.cases [
+  | inl done ↦ let two : number_of status ≡ 2 = ap number_of done.0 in absurd (omega (arith, two, seven))
+  | inr fault ↦ fault.1
+]
+write_fault_cause words source sink status (source_failed some failed said) seven = elim said.cases [
+  | inl done ↦ let six : number_of status ≡ 6 = ap number_of done.0 in absurd (omega (arith, six, seven))
+  | inr fault ↦ fault.1
+]
+write_fault_cause words source sink status (no_memory some memory calm same) seven = let eight : number_of status ≡ 8 = ap number_of memory in absurd (omega (arith, eight, seven))
+write_fault_cause words source sink status (answered some bytes read given) seven = elim given.cases [
+  | inl done ↦ absurd ((no_failure (command_of words) bytes given.status given.text some given.found_so).2 (sym (ap number_of done.0) ∙ seven))
+  | inr gave_out ↦ elim gave_out [
+    | inl fault ↦ fault.1
+    | inr memory ↦ let eight : number_of status ≡ 8 = ap number_of memory.0 in absurd (omega (arith, eight, seven))
+  ]
+]
+
+-- a text that was said without a write fault left the sink's faults as they were
+said_calm : (status result : Status) (text : List ℕ) (sink : Ends) → IsSaid status text sink result → number_of result ≢ 7 → DidNotFail sink
+said_calm status result text sink said other = elim said.cases [ inl done ↦ done.2 | inr fault ↦ absurd (other (ap number_of fault.0)) ]
+
+sink_shown : (words : List (List ℕ)) (source sink : Ends) (status : Status) → Ended words source sink status → number_of status ≢ 7 → DidNotFail sink
+sink_shown words source sink status (refused not_so untouched said) other = said_calm Usage status usage_text sink said other
+sink_shown words source sink status (source_failed some failed said) other = said_calm ReadFault status read_fault_text sink said other
+sink_shown words source sink status (no_memory some memory calm same) other = same.1
+sink_shown words source sink status (answered some bytes read given) other = elim given.cases [
+  | inl done ↦ done.2
+  | inr gave_out ↦ elim gave_out [ inl fault ↦ absurd (other (ap number_of fault.0)) | inr memory ↦ memory.1 ]
+]
+
+source_shown : (words : List (List ℕ)) (source sink : Ends) (status : Status) → Ended words source sink status → number_of status ≢ 6 → number_of status ≢ 7 → DidNotFail source
+source_shown words source sink status (refused not_so untouched said) other another = untouched.1
+source_shown words source sink status (source_failed some failed said) other another = elim said.cases [
+  | inl done ↦ absurd (other (ap number_of done.0))
+  | inr fault ↦ absurd (another (ap number_of fault.0))
+]
+source_shown words source sink status (no_memory some memory calm same) other another = calm
+source_shown words source sink status (answered some bytes read given) other another = read.unfailing
+
+-- the status shows each fault of the outside
+pub shows_faults : (words : List (List ℕ)) (source sink : Ends) (status : Status) → Ended words source sink status → ShowsFaults source sink (number_of status)
+shows_faults words source sink status ended = record {
+  of_the_sink = sink_shown words source sink status ended;
+  of_the_source = source_shown words source sink status ended;
+}

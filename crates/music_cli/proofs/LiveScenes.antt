@@ -15,7 +15,8 @@ use Rattle.music_cli.specs.Clauses.{AsksForScene, Ends, read_part, Ended, IsLive
 use Rattle.music_cli.specs.declared.command_line.Command.{Command}
 use Rattle.music_cli.specs.declared.command_line.Command.TheVariants.{Check, Plan, Run}
 use Rattle.music_cli.specs.declared.status.Status.{Status}
-use Rattle.music_cli.proofs.Endings.{has_answer, lawful_is_faultless}
+use Rattle.music_cli.proofs.SomeAnswers.{lawful_is_faultless}
+use Rattle.music_cli.proofs.Endings.{has_answer}
 
 no_fault_done : (fault : SetupFault) → number_of (status_of fault) ≡ 0 → ⊥
 no_fault_done (setup.Text line kind) done = omega (arith, done)

@@ -13,7 +13,7 @@ use Rattle.scene_model.specs.Orders.{IsLive}
 use Rattle.scene_model.specs.Waits.{AreLimits, IsAccepted, stated_limits, waits}
 use Rattle.scene_model.specs.declared.scene.Scene.{Scene}
 use Rattle.scene_model.specs.declared.wait.Wait.{Wait}
-use Rattle.cycle_check.specs.CycleTexts.{cycle_text}
+use Rattle.cycle_check.specs.CycleTexts.{cycle_text, names_of}
 use Rattle.music_setup.specs.Scenes.{scene_of}
 use Rattle.music_setup.specs.Texts.{text_of_fault}
 use Rattle.music_setup.specs.declared.fault.SetupFault.{SetupFault}
@@ -84,7 +84,8 @@ AnswersFault config fault status text = (status ≡ status_of fault) × (text �
 -- it, and its first waiter has the least place.
 abbrev pub AnswersUncovered : Scene → Status → List ℕ → Type 0
 AnswersUncovered scene status text =
-    (cycle : List Wait) × IsReportable (waits scene (stated_limits scene)) cycle × (status ≡ CycleFault) × (text ≡ cycle_text scene cycle)
+    (cycle : List Wait) × IsReportable (waits scene (stated_limits scene)) cycle
+    × (status ≡ CycleFault) × (text ≡ cycle_text (names_of scene) cycle)
 
 -- `check` answers the size of an accepted scene, and of any other one a cycle that is not covered
 abbrev pub AnswersChecked : Scene → Status → List ℕ → Type 0

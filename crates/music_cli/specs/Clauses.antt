@@ -22,17 +22,22 @@ pub record Ends : Type 0 where
   pub faults_before : ℕ
   pub faults_after : ℕ
 
-abbrev pub ends : Option (List ℕ) → Option (List ℕ) → ℕ → ℕ → Ends
-ends before after faults_before faults_after =
-    record { before = before; after = after; faults_before = faults_before; faults_after = faults_after }
+-- what a source or a sink tells of itself, and its faults, at the entry and at the exit of a call
+abbrev pub ends : {T : Type 0} → (T → Option (List ℕ)) → (T → ℕ) → T → T → Ends
+ends told faults old new =
+    record { before = told old; after = told new; faults_before = faults old; faults_after = faults new }
 
 -- its faults rose in the call
 abbrev pub Failed : Ends → Type 0
 Failed e = Rose e.faults_before e.faults_after
 
--- a source was not touched
+-- its faults are what they were
+abbrev pub DidNotFail : Ends → Type 0
+DidNotFail e = e.faults_after ≡ e.faults_before
+
+-- nothing was asked of it
 abbrev pub Untouched : Ends → Type 0
-Untouched source = (source.after ≡ source.before) × (source.faults_after ≡ source.faults_before)
+Untouched e = (e.after ≡ e.before) × DidNotFail e
 
 -- a sink took this text, whole
 abbrev pub Wrote : List ℕ → Ends → Type 0
@@ -55,6 +60,7 @@ pub record IsRead (bytes : List ℕ) (source : Ends) : Type 0 where
   pub gave : Gave source.before bytes source.after
   pub size : length bytes ≤ most_read
   pub whole : length bytes < most_read → IsAtEnd source.after
+  pub unfailing : DidNotFail source
 
 -- ---- clauses for every source and sink
 
@@ -80,6 +86,11 @@ HasReadFaultCause words source sink result = result ≡ number_of ReadFault →
 -- a write fault comes only where the sink failed in this call
 abbrev pub HasWriteFaultCause : Ends → ℕ → Type 0
 HasWriteFaultCause sink result = result ≡ number_of WriteFault → Failed sink
+
+-- no fault of the sink is hidden, and none of the source, unless the sink failed after it
+pub record ShowsFaults (source sink : Ends) (result : ℕ) : Type 0 where
+  pub of_the_sink : result ≢ number_of WriteFault → DidNotFail sink
+  pub of_the_source : result ≢ number_of ReadFault → result ≢ number_of WriteFault → DidNotFail source
 
 -- where accepted words get a status below that of a read fault, the source was read to its end, or one byte further than
 -- the longest text, and status and text are what the words and these bytes get
@@ -147,11 +158,32 @@ abbrev pub IsLiveWhenDone : List (List ℕ) → Ends → ℕ → Type 0
 IsLiveWhenDone words source result = (command : Command) (bytes : List ℕ) → source.before ≡ Some bytes → command_of words ≡ Some command → AsksForScene command → result ≡ number_of Done →
     (config : Config) × Spells config (read_part bytes) × (scene : Scene) × (scene_of config ≡ Ok scene) × HasLiveLimits scene
 
+-- ---- all of them
+
+-- all that is promised of each call of the program
+pub record TopClauses (words : List (List ℕ)) (source sink : Ends) (result : ℕ) : Type 0 where
+  -- for every source and every sink
+  pub status_in_range : IsStatus words result
+  pub accepted_words_are_no_usage : NotUsage words result
+  pub refused_words_are_usage : IsUsage words source sink result
+  pub cause_of_a_read_fault : HasReadFaultCause words source sink result
+  pub cause_of_a_write_fault : HasWriteFaultCause sink result
+  pub faults_are_shown : ShowsFaults source sink result
+  pub answers_what_was_read : AnswersWhatWasRead words source sink result
+  pub what_was_read_of_the_source : WasRead words source result
+  pub some_prefix : HasSomePrefix words source sink result
+  pub reads_no_more : ReadsNoMore source
+  -- where the source tells its bytes
+  pub answers : HasAnswer words source sink result
+  pub prefix : HasPrefix words source sink result
+  pub completeness : IsComplete words source sink result
+  pub accepted_scenes_are_live : IsLiveWhenDone words source result
+
 -- ---- how a call can end
 
 -- A text was said with a status: it was written, or the sink failed and took a prefix of it.
 pub record IsSaid (status : Status) (text : List ℕ) (sink : Ends) (result : Status) : Type 0 where
-  pub cases : ((result ≡ status) × Wrote text sink) ⊎ ((result ≡ WriteFault) × Failed sink)
+  pub cases : ((result ≡ status) × Wrote text sink × DidNotFail sink) ⊎ ((result ≡ WriteFault) × Failed sink)
   pub prefix : WrotePrefix text sink
 
 -- An answer was given to bytes that were read: its text was written, or a prefix of it where the sink failed or memory
@@ -160,7 +192,7 @@ pub record IsGiven (found : Status → List ℕ → Type 0) (sink : Ends) (resul
   pub status : Status
   pub text : List ℕ
   pub found_so : found status text
-  pub cases : ((result ≡ status) × Wrote text sink) ⊎ ((result ≡ WriteFault) × Failed sink) ⊎ (result ≡ NoMemory)
+  pub cases : ((result ≡ status) × Wrote text sink × DidNotFail sink) ⊎ ((result ≡ WriteFault) × Failed sink) ⊎ ((result ≡ NoMemory) × DidNotFail sink)
   pub prefix : WrotePrefix text sink
 
 -- The four ways in which a call can end: the words were refused; the source failed; memory gave out before the bytes
@@ -168,5 +200,5 @@ pub record IsGiven (found : Status → List ℕ → Type 0) (sink : Ends) (resul
 pub data Ended (words : List (List ℕ)) (source sink : Ends) (result : Status) : Type 0 where
   refused : are_accepted words ≡ false → Untouched source → IsSaid Usage usage_text sink result → Ended words source sink result
   source_failed : are_accepted words ≡ true → Failed source → IsSaid ReadFault read_fault_text sink result → Ended words source sink result
-  no_memory : are_accepted words ≡ true → result ≡ NoMemory → sink.after ≡ sink.before → Ended words source sink result
+  no_memory : are_accepted words ≡ true → result ≡ NoMemory → DidNotFail source → Untouched sink → Ended words source sink result
   answered : are_accepted words ≡ true → (bytes : List ℕ) → IsRead bytes source → IsGiven (Answers words bytes) sink result → Ended words source sink result

@@ -25,7 +25,7 @@ fn answer_config<K: Sink>(
     sink: &mut K,
 ) -> Status
     requires { is_lawful_config config.now ≡ true }
-    ensures { IsGiven (AnswersConfig command config.now bytes.items) (ends (K.taken sink.old) (K.taken sink.new) (K.faults sink.old) (K.faults sink.new)) result }
+    ensures { IsGiven (AnswersConfig command config.now bytes.items) (ends K.taken K.faults sink.old sink.new) result }
 {
     match command {
         Command::Check => {
@@ -42,7 +42,7 @@ fn answer_config<K: Sink>(
 
 /// Does what the command asks with the configuration that the bytes spell, or says which line of the text is faulty.
 pub fn answer_text<K: Sink>(alloc: Global, command: Command, bytes: Vec<u8>, sink: &mut K) -> Status
-    ensures { IsGiven (AnswersText command bytes.items) (ends (K.taken sink.old) (K.taken sink.new) (K.faults sink.old) (K.faults sink.new)) result }
+    ensures { IsGiven (AnswersText command bytes.items) (ends K.taken K.faults sink.old sink.new) result }
 {
     match read_config(alloc, &bytes) {
         Ok(config) => answer_config(alloc, command, &config, bytes, sink),

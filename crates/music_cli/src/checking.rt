@@ -29,7 +29,7 @@ fn ok_text(alloc: Global, scene: &Scene) -> Result<Vec<u8>, NoMemory>
 
 // Says how large a scene is.
 fn say_size<K: Sink>(alloc: Global, scene: &Scene, sink: &mut K) -> Status
-    ensures { IsGiven (AnswersDone (ok_text scene.now)) (ends (K.taken sink.old) (K.taken sink.new) (K.faults sink.old) (K.faults sink.new)) result }
+    ensures { IsGiven (AnswersDone (ok_text scene.now)) (ends K.taken K.faults sink.old sink.new) result }
 {
     match ok_text(alloc, scene) {
         Ok(text) => say(sink, Status::Done, &text),
@@ -41,10 +41,10 @@ fn say_size<K: Sink>(alloc: Global, scene: &Scene, sink: &mut K) -> Status
 /// cycle that is not covered. The configuration is one that a text spells.
 pub fn check<K: Sink>(alloc: Global, config: &Config, sink: &mut K) -> Status
     requires { is_lawful_config config.now ≡ true }
-    ensures { IsGiven (AnswersScene AnswersChecked config.now (scene_of config.now)) (ends (K.taken sink.old) (K.taken sink.new) (K.faults sink.old) (K.faults sink.new)) result }
+    ensures { IsGiven (AnswersScene AnswersChecked config.now (scene_of config.now)) (ends K.taken K.faults sink.old sink.new) result }
 {
     match setup_config(alloc, config) {
-        Ok(ready) => say_size(alloc, &ready.scene, sink),
+        Ok(ready) => say_size(alloc, ready.scene(), sink),
         Err(fault) => match fault {
             SetupFault::Memory => Status::NoMemory,
             _ => refuse(alloc, Some(config), fault, sink),

@@ -1,15 +1,13 @@
 //! The text of a plan.
-ghost use Rattle.std.specs.Prelude.{◌≡◌, ◌<◌, ◌++◌, length, map, OnOk, IfOk};
-ghost use Rattle.std.specs.Option.{is_some};
+ghost use Rattle.std.specs.Prelude.{◌≡◌, ◌<◌, ◌++◌, length, OnOk, IfOk};
 ghost use Rattle.scene_model.specs.Faults.{IsFaultless};
-ghost use Rattle.scene_model.specs.Waits.{stated_limits};
 ghost use Rattle.music_cli.specs.PlanTexts.{columns_line, ends_text, how_text, plan_line, plan_text, port_text};
 
 use itoa::Buffer;
 use music_base::{LinkId, NoMemory};
+use music_setup::Ready;
 use scene_model::{AppDecl, PortDecl, Scene};
 use std::alloc::Global;
-use tick_plan::Plan;
 
 /// Appends the names of an application and of one of its ports.
 fn push_port(text: &mut Vec<u8>, app: &AppDecl, port: &PortDecl) -> Result<(), NoMemory>
@@ -75,12 +73,11 @@ fn columns_line() -> &'static [u8]
 
 /// The text of a plan: the names of the columns, and a line for each connection, with its number from 1, its two ends, its
 /// limit, and whether that is stated or chosen.
-pub fn plan_text(alloc: Global, scene: &Scene, plan: &Plan) -> Result<Vec<u8>, NoMemory>
-    requires scene { IsFaultless scene.now }
-    requires counted { length plan.now.limits.items ≡ length scene.now.links }
-    requires stated { plan.now.stated.items ≡ map is_some (stated_limits scene.now) }
-    ensures { IfOk result (λ text. text.items ≡ plan_text scene.now plan.now.limits.items) }
+pub fn plan_text(alloc: Global, ready: &Ready) -> Result<Vec<u8>, NoMemory>
+    ensures { IfOk result (λ text. text.items ≡ plan_text ready.now.scene ready.now.plan.limits.items) }
 {
+    let scene = ready.scene();
+    let plan = ready.plan();
     let mut text = Vec::from_slice(alloc, columns_line())?;
     for c in 0..scene.links.len() {
         push_line(

@@ -1,9 +1,6 @@
 //! The command `plan`.
-ghost use Rattle.std.specs.Prelude.{◌≡◌, true, map};
-ghost use Rattle.std.specs.Option.{is_some};
+ghost use Rattle.std.specs.Prelude.{◌≡◌, true};
 ghost use Rattle.config_text.specs.Canon.{is_lawful_config};
-ghost use Rattle.scene_model.specs.Faults.{IsFaultless};
-ghost use Rattle.scene_model.specs.Waits.{AreLimits, stated_limits};
 ghost use Rattle.music_setup.specs.Scenes.{scene_of};
 ghost use Rattle.music_cli.specs.Answers.{AnswersDone, AnswersPlanned, AnswersScene};
 ghost use Rattle.music_cli.specs.Clauses.{ends, IsGiven};
@@ -14,19 +11,15 @@ use crate::plan_text::plan_text;
 use crate::saying::{refuse, say};
 use config_text::Config;
 use music_base::{NoMemory, Sink};
-use music_setup::{SetupFault, setup_config};
-use scene_model::Scene;
+use music_setup::{Ready, SetupFault, setup_config};
 use std::alloc::Global;
-use tick_plan::Plan;
 
 // Says how many blocks each connection keeps at most.
-fn say_plan<K: Sink>(alloc: Global, scene: &Scene, plan: &Plan, sink: &mut K) -> Status
-    requires scene { IsFaultless scene.now }
-    requires limits { AreLimits scene.now plan.now.limits.items }
-    requires stated { plan.now.stated.items ≡ map is_some (stated_limits scene.now) }
-    ensures { IsGiven (AnswersDone (plan_text scene.now plan.now.limits.items)) (ends (K.taken sink.old) (K.taken sink.new) (K.faults sink.old) (K.faults sink.new)) result }
+fn say_plan<K: Sink>(alloc: Global, ready: &Ready, sink: &mut K) -> Status
+    ensures { IsGiven (AnswersDone (plan_text ready.now.scene ready.now.plan.limits.items))
+        (ends K.taken K.faults sink.old sink.new) result }
 {
-    match plan_text(alloc, scene, plan) {
+    match plan_text(alloc, ready) {
         Ok(text) => say(sink, Status::Done, &text),
         Err(NoMemory) => Status::NoMemory,
     }
@@ -36,10 +29,10 @@ fn say_plan<K: Sink>(alloc: Global, scene: &Scene, plan: &Plan, sink: &mut K) ->
 /// or which of its waits make up a cycle that is not covered. The configuration is one that a text spells.
 pub fn plan<K: Sink>(alloc: Global, config: &Config, sink: &mut K) -> Status
     requires { is_lawful_config config.now ≡ true }
-    ensures { IsGiven (AnswersScene AnswersPlanned config.now (scene_of config.now)) (ends (K.taken sink.old) (K.taken sink.new) (K.faults sink.old) (K.faults sink.new)) result }
+    ensures { IsGiven (AnswersScene AnswersPlanned config.now (scene_of config.now)) (ends K.taken K.faults sink.old sink.new) result }
 {
     match setup_config(alloc, config) {
-        Ok(ready) => say_plan(alloc, &ready.scene, &ready.plan, sink),
+        Ok(ready) => say_plan(alloc, &ready, sink),
         Err(fault) => match fault {
             SetupFault::Memory => Status::NoMemory,
             _ => refuse(alloc, Some(config), fault, sink),

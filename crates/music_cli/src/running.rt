@@ -17,7 +17,7 @@ use std::alloc::Global;
 // Runs the scene of a form, and writes its log.
 fn run_form<K: Sink>(alloc: Global, form: &FirstForm, sink: &mut K) -> Status
     requires { IsLawfulForm form.now }
-    ensures { IsGiven (AnswersForm (Ok form.now)) (ends (K.taken sink.old) (K.taken sink.new) (K.faults sink.old) (K.faults sink.new)) result }
+    ensures { IsGiven (AnswersForm (Ok form.now)) (ends K.taken K.faults sink.old sink.new) result }
 {
     let Ok(scene) = scene_of(alloc, form) else {
         return Status::NoMemory;
@@ -35,7 +35,7 @@ fn run_form<K: Sink>(alloc: Global, form: &FirstForm, sink: &mut K) -> Status
 /// Runs the scene of a text that spells a configuration and writes its log, or says at which line the text leaves the
 /// first form.
 pub fn run<K: Sink>(alloc: Global, bytes: &[u8], sink: &mut K) -> Status
-    ensures { IsGiven (AnswersForm (first_form bytes.now)) (ends (K.taken sink.old) (K.taken sink.new) (K.faults sink.old) (K.faults sink.new)) result }
+    ensures { IsGiven (AnswersForm (first_form bytes.now)) (ends K.taken K.faults sink.old sink.new) result }
 {
     match first_form(alloc, bytes) {
         Ok(form) => run_form(alloc, &form, sink),

@@ -29,7 +29,7 @@ pub fn read_fault_text() -> &'static [u8]
 
 /// Writes the text. The answer is the status, or that of a write fault.
 pub fn say<K: Sink>(sink: &mut K, status: Status, text: &[u8]) -> Status
-    ensures { IsSaid status text.now (ends (K.taken sink.old) (K.taken sink.new) (K.faults sink.old) (K.faults sink.new)) result }
+    ensures { IsSaid status text.now (ends K.taken K.faults sink.old sink.new) result }
 {
     match write_all(sink, text) {
         Ok(()) => status,
@@ -48,7 +48,7 @@ pub fn refuse<K: Sink>(
     sink: &mut K,
 ) -> Status
     requires { HasText (option_copied config) fault }
-    ensures { IsGiven (AnswersFault (option_copied config.entry) fault) (ends (K.taken sink.old) (K.taken sink.new) (K.faults sink.old) (K.faults sink.new)) result }
+    ensures { IsGiven (AnswersFault (option_copied config.entry) fault) (ends K.taken K.faults sink.old sink.new) result }
 {
     match fault_text(alloc, config, &fault) {
         Ok(text) => say(sink, Status::of_fault(&fault), &text),

@@ -1,23 +1,7 @@
 //! The two top calls.
 ghost use Rattle.std.specs.Prelude.{◌≡◌, ℕ, List, Some};
 ghost use Rattle.music_cli.specs.Words.{command_of, texts};
-ghost use Rattle.music_cli.specs.Clauses.{
-  AnswersWhatWasRead,
-  ends,
-  Ended,
-  HasAnswer,
-  HasPrefix,
-  HasReadFaultCause,
-  HasSomePrefix,
-  HasWriteFaultCause,
-  IsComplete,
-  IsLiveWhenDone,
-  IsStatus,
-  IsUsage,
-  NotUsage,
-  ReadsNoMore,
-  WasRead,
-};
+ghost use Rattle.music_cli.specs.Clauses.{ends, Ended, ReadsNoMore, TopClauses};
 
 use crate::answering::answer_text;
 use crate::saying::{read_fault_text, say, usage_text};
@@ -34,10 +18,9 @@ fn follow<S: Source, K: Sink>(
     source: &mut S,
     sink: &mut K,
 ) -> Status
-    ensures ended { (words : List (List ℕ)) → command_of words ≡ Some command → Ended words
-        (ends (S.left source.old) (S.left source.new) (S.faults source.old) (S.faults source.new))
-        (ends (K.taken sink.old) (K.taken sink.new) (K.faults sink.old) (K.faults sink.new)) result }
-    ensures no_more { ReadsNoMore (ends (S.left source.old) (S.left source.new) (S.faults source.old) (S.faults source.new)) }
+    ensures ended { (words : List (List ℕ)) → command_of words ≡ Some command →
+        Ended words (ends S.left S.faults source.old source.new) (ends K.taken K.faults sink.old sink.new) result }
+    ensures no_more { ReadsNoMore (ends S.left S.faults source.old source.new) }
 {
     match read_all(alloc, source, MOST_READ) {
         Ok(bytes) => answer_text(alloc, command, bytes, sink),
@@ -53,10 +36,8 @@ fn answer<S: Source, K: Sink>(
     source: &mut S,
     sink: &mut K,
 ) -> Status
-    ensures ended { Ended (texts words.now)
-        (ends (S.left source.old) (S.left source.new) (S.faults source.old) (S.faults source.new))
-        (ends (K.taken sink.old) (K.taken sink.new) (K.faults sink.old) (K.faults sink.new)) result }
-    ensures no_more { ReadsNoMore (ends (S.left source.old) (S.left source.new) (S.faults source.old) (S.faults source.new)) }
+    ensures ended { Ended (texts words.now) (ends S.left S.faults source.old source.new) (ends K.taken K.faults sink.old sink.new) result }
+    ensures no_more { ReadsNoMore (ends S.left S.faults source.old source.new) }
 {
     match command_of(words) {
         Some(command) => follow(alloc, command, source, sink),
@@ -81,40 +62,7 @@ pub fn music_alone<S: Source, K: Sink>(
     source: &mut S,
     sink: &mut K,
 ) -> u8
-    // for every source and every sink
-    ensures status_in_range { IsStatus (texts words.now.items) result }
-    ensures accepted_words_are_no_usage { NotUsage (texts words.now.items) result }
-    ensures refused_words_are_usage { IsUsage (texts words.now.items)
-        (ends (S.left source.old) (S.left source.new) (S.faults source.old) (S.faults source.new))
-        (ends (K.taken sink.old) (K.taken sink.new) (K.faults sink.old) (K.faults sink.new)) result }
-    ensures cause_of_a_read_fault { HasReadFaultCause (texts words.now.items)
-        (ends (S.left source.old) (S.left source.new) (S.faults source.old) (S.faults source.new))
-        (ends (K.taken sink.old) (K.taken sink.new) (K.faults sink.old) (K.faults sink.new)) result }
-    ensures cause_of_a_write_fault { HasWriteFaultCause
-        (ends (K.taken sink.old) (K.taken sink.new) (K.faults sink.old) (K.faults sink.new)) result }
-    ensures answers_what_was_read { AnswersWhatWasRead (texts words.now.items)
-        (ends (S.left source.old) (S.left source.new) (S.faults source.old) (S.faults source.new))
-        (ends (K.taken sink.old) (K.taken sink.new) (K.faults sink.old) (K.faults sink.new)) result }
-    ensures what_was_read_of_the_source { WasRead (texts words.now.items)
-        (ends (S.left source.old) (S.left source.new) (S.faults source.old) (S.faults source.new)) result }
-    ensures some_prefix { HasSomePrefix (texts words.now.items)
-        (ends (S.left source.old) (S.left source.new) (S.faults source.old) (S.faults source.new))
-        (ends (K.taken sink.old) (K.taken sink.new) (K.faults sink.old) (K.faults sink.new)) result }
-    ensures reads_no_more { ReadsNoMore
-        (ends (S.left source.old) (S.left source.new) (S.faults source.old) (S.faults source.new)) }
-
-    // where the source tells its bytes
-    ensures answers { HasAnswer (texts words.now.items)
-        (ends (S.left source.old) (S.left source.new) (S.faults source.old) (S.faults source.new))
-        (ends (K.taken sink.old) (K.taken sink.new) (K.faults sink.old) (K.faults sink.new)) result }
-    ensures prefix { HasPrefix (texts words.now.items)
-        (ends (S.left source.old) (S.left source.new) (S.faults source.old) (S.faults source.new))
-        (ends (K.taken sink.old) (K.taken sink.new) (K.faults sink.old) (K.faults sink.new)) result }
-    ensures completeness { IsComplete (texts words.now.items)
-        (ends (S.left source.old) (S.left source.new) (S.faults source.old) (S.faults source.new))
-        (ends (K.taken sink.old) (K.taken sink.new) (K.faults sink.old) (K.faults sink.new)) result }
-    ensures accepted_scenes_are_live { IsLiveWhenDone (texts words.now.items)
-        (ends (S.left source.old) (S.left source.new) (S.faults source.old) (S.faults source.new)) result }
+    ensures { TopClauses (texts words.now.items) (ends S.left S.faults source.old source.new) (ends K.taken K.faults sink.old sink.new) result }
 {
     let status = answer(alloc, words, source, sink);
     status.number()
@@ -131,40 +79,7 @@ pub fn music<R: Threads + Wait + Sync, S: Source, K: Sink, G: Gate>(
     sink: &mut K,
     gate: &G,
 ) -> u8
-    // for every source and every sink
-    ensures status_in_range { IsStatus (texts words.now.items) result }
-    ensures accepted_words_are_no_usage { NotUsage (texts words.now.items) result }
-    ensures refused_words_are_usage { IsUsage (texts words.now.items)
-        (ends (S.left source.old) (S.left source.new) (S.faults source.old) (S.faults source.new))
-        (ends (K.taken sink.old) (K.taken sink.new) (K.faults sink.old) (K.faults sink.new)) result }
-    ensures cause_of_a_read_fault { HasReadFaultCause (texts words.now.items)
-        (ends (S.left source.old) (S.left source.new) (S.faults source.old) (S.faults source.new))
-        (ends (K.taken sink.old) (K.taken sink.new) (K.faults sink.old) (K.faults sink.new)) result }
-    ensures cause_of_a_write_fault { HasWriteFaultCause
-        (ends (K.taken sink.old) (K.taken sink.new) (K.faults sink.old) (K.faults sink.new)) result }
-    ensures answers_what_was_read { AnswersWhatWasRead (texts words.now.items)
-        (ends (S.left source.old) (S.left source.new) (S.faults source.old) (S.faults source.new))
-        (ends (K.taken sink.old) (K.taken sink.new) (K.faults sink.old) (K.faults sink.new)) result }
-    ensures what_was_read_of_the_source { WasRead (texts words.now.items)
-        (ends (S.left source.old) (S.left source.new) (S.faults source.old) (S.faults source.new)) result }
-    ensures some_prefix { HasSomePrefix (texts words.now.items)
-        (ends (S.left source.old) (S.left source.new) (S.faults source.old) (S.faults source.new))
-        (ends (K.taken sink.old) (K.taken sink.new) (K.faults sink.old) (K.faults sink.new)) result }
-    ensures reads_no_more { ReadsNoMore
-        (ends (S.left source.old) (S.left source.new) (S.faults source.old) (S.faults source.new)) }
-
-    // where the source tells its bytes
-    ensures answers { HasAnswer (texts words.now.items)
-        (ends (S.left source.old) (S.left source.new) (S.faults source.old) (S.faults source.new))
-        (ends (K.taken sink.old) (K.taken sink.new) (K.faults sink.old) (K.faults sink.new)) result }
-    ensures prefix { HasPrefix (texts words.now.items)
-        (ends (S.left source.old) (S.left source.new) (S.faults source.old) (S.faults source.new))
-        (ends (K.taken sink.old) (K.taken sink.new) (K.faults sink.old) (K.faults sink.new)) result }
-    ensures completeness { IsComplete (texts words.now.items)
-        (ends (S.left source.old) (S.left source.new) (S.faults source.old) (S.faults source.new))
-        (ends (K.taken sink.old) (K.taken sink.new) (K.faults sink.old) (K.faults sink.new)) result }
-    ensures accepted_scenes_are_live { IsLiveWhenDone (texts words.now.items)
-        (ends (S.left source.old) (S.left source.new) (S.faults source.old) (S.faults source.new)) result }
+    ensures { TopClauses (texts words.now.items) (ends S.left S.faults source.old source.new) (ends K.taken K.faults sink.old sink.new) result }
 {
     let _ = rt;
     let _ = gate;

@@ -1,5 +1,5 @@
 use Rattle.config_text.proofs.SpelledLaws.{spelled_lawful}
-use Rattle.music_cli.proofs.Endings.{text_no_memory}
+use Rattle.music_cli.proofs.GivenAnswers.{text_no_memory}
 use Rattle.music_cli.proofs.answering.answer_text.Goals as goal
 
 pub answer_config-requires : goal.answer_config-requires

@@ -1,7 +1,7 @@
 use Rattle.std.proofs.Common.{inl, inr}
 use Rattle.music_setup.specs.Scenes.{scene_of}
 use Rattle.music_cli.specs.Answers.{AnswersChecked, AnswersDone, AnswersScene, ok_text}
-use Rattle.music_cli.proofs.Endings.{checked_no_memory, given_as, of_described, of_refused}
+use Rattle.music_cli.proofs.GivenAnswers.{checked_no_memory, given_as, of_described, of_refused}
 use Rattle.music_cli.proofs.checking.check.Goals as goal
 
 pub refuse-requires : goal.refuse-requires
@@ -15,7 +15,8 @@ returns-in-Ok g c =
     let config = c.args.config.now in
     let scene = c.in-Ok.ready.scene in
     given_as (AnswersDone (ok_text scene)) (AnswersScene AnswersChecked config (scene_of config)) _ _
-    (λ status text is. of_described AnswersChecked config scene status text c.in-Ok.ensures.scene (inr (c.in-Ok.ensures.sound.accepted, is))) c.say_size.ensures
+    (λ status text is. of_described AnswersChecked config scene status text c.in-Ok.ensures.scene (inr (c.in-Ok.ensures.sound.accepted, is)))
+    (rw c.scene.ensures.scene at c.say_size.ensures)
 
 pub returns-in_default : goal.returns-in_default
 returns-in_default g c =

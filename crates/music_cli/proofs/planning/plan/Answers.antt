@@ -2,11 +2,8 @@ use Rattle.std.proofs.Common.{inl, inr}
 use Rattle.music_setup.specs.Scenes.{scene_of}
 use Rattle.music_cli.specs.Answers.{AnswersDone, AnswersPlanned, AnswersScene}
 use Rattle.music_cli.specs.PlanTexts.{plan_text}
-use Rattle.music_cli.proofs.Endings.{given_as, of_described, of_refused, planned_no_memory}
+use Rattle.music_cli.proofs.GivenAnswers.{given_as, of_described, of_refused, planned_no_memory}
 use Rattle.music_cli.proofs.planning.plan.Goals as goal
-
-pub say_plan-requires : goal.say_plan-requires
-say_plan-requires g c = record { scene = c.in-Ok.ensures.sound.faultless; limits = c.in-Ok.ensures.sound.limits; stated = c.in-Ok.ensures.sound.stated }
 
 pub refuse-requires : goal.refuse-requires
 refuse-requires g c = c.in-Err.ensures.has_text c.in_default.not-Memory

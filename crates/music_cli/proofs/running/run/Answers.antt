@@ -1,4 +1,4 @@
-use Rattle.music_cli.proofs.Endings.{form_no_memory}
+use Rattle.music_cli.proofs.GivenAnswers.{form_no_memory}
 use Rattle.music_cli.proofs.running.run.Goals as goal
 
 pub returns-in-Err-Memory : goal.returns-in-Err-Memory

@@ -16,7 +16,7 @@ is_log form scene written same all = rw (same, all) refl
 pub returns-in-Ok-write_rows : goal.returns-in-Ok-write_rows
 returns-in-Ok-write_rows g c =
     let log = is_log c.args.form.now c.in-Ok.scene c.as_slice.result.now c.in-Ok.ensures (c.as_slice.ensures ∙ c.in-Ok-plain_rows.ensures.history) in
-    record { status = Done; text = log_of (scene_of c.args.form.now); found_so = (refl, refl); cases = inl (refl, rw log at c.in-Ok-write_rows.ensures.all); prefix = rw log at c.in-Ok-write_rows.ensures.prefix }
+    record { status = Done; text = log_of (scene_of c.args.form.now); found_so = (refl, refl); cases = inl (refl, rw log at c.in-Ok-write_rows.ensures.all, c.in-Ok-write_rows.ensures.stays); prefix = rw log at c.in-Ok-write_rows.ensures.prefix }
 
 pub returns-in-Err-Sink : goal.returns-in-Err-Sink
 returns-in-Err-Sink g c =
@@ -26,4 +26,4 @@ returns-in-Err-Sink g c =
 pub returns : goal.returns
 returns g c =
     let log = is_log c.args.form.now c.in-Ok.scene c.as_slice.result.now c.in-Ok.ensures (c.as_slice.ensures ∙ c.in-Ok-plain_rows.ensures.history) in
-    record { status = Done; text = log_of (scene_of c.args.form.now); found_so = (refl, refl); cases = inr (inr refl); prefix = rw log at c.in-Err-Memory.ensures.prefix }
+    record { status = Done; text = log_of (scene_of c.args.form.now); found_so = (refl, refl); cases = inr (inr (refl, (rw c.in-Err-Memory.field-0-is at c.in-Err-Memory.ensures.memory) refl)); prefix = rw log at c.in-Err-Memory.ensures.prefix }
