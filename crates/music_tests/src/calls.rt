@@ -62,12 +62,12 @@ fn fault_of_blanks(alloc: Global, count: usize) -> Option<TextFault> {
 
 #[test]
 fn a_text_is_read_whole(rt: HostRuntime) {
-    assert!(rt; is_read_whole(rt.alloc(), SPIKES) == Ok(true));
+    assert!(rt; is_read_whole(rt.alloc(), SPIKES.as_bytes()) == Ok(true));
 }
 
 #[test]
 fn a_form_is_read_and_run(rt: HostRuntime) {
-    assert!(rt; is_run_to(rt.alloc(), SPIKES, SPIKES_LOG));
+    assert!(rt; is_run_to(rt.alloc(), SPIKES.as_bytes(), SPIKES_LOG.as_bytes()));
 }
 
 #[test]

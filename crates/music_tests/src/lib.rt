@@ -8,26 +8,20 @@ mod calls;
 #[cfg(test)]
 mod checks;
 #[cfg(test)]
-mod cycle_rows;
+mod cycle_tables;
 #[cfg(test)]
-mod plan_rows;
+mod made_texts;
 #[cfg(test)]
-mod plans;
-#[cfg(test)]
-mod port_rows;
+mod port_tables;
 #[cfg(test)]
 mod refused_memory;
 #[cfg(test)]
-mod ring_rows;
-#[cfg(test)]
-mod room_rows;
-#[cfg(test)]
-mod rows;
-#[cfg(test)]
-mod rule_rows;
+mod rule_tables;
 #[cfg(test)]
 mod runs;
 #[cfg(test)]
-mod scene_rows;
+mod scene_tables;
+#[cfg(test)]
+mod tables;
 #[cfg(test)]
 mod texts;

@@ -5,10 +5,11 @@ use crate::texts::SPIKES_LOG;
 use music_cli::music_alone;
 
 fn is_log_or_prefix(status: u8, taken: &[u8]) -> bool {
+    let log = SPIKES_LOG.as_bytes();
     if status == 0 {
-        taken == SPIKES_LOG
+        taken == log
     } else {
-        status == 8 && SPIKES_LOG.starts_with(taken)
+        status == 8 && log.starts_with(taken)
     }
 }
 

@@ -1,4 +1,5 @@
 //! Words and bytes, and the status and the text that they get, by both top calls.
+use crate::tables::gets;
 use crate::texts::{HEADER, SLOW, SLOW_LOG, SPIKES, SPIKES_LOG, UNHEARD, USAGE, blanks, words_of};
 use music_base::{FreeGate, MemorySink, MemorySource, NoMemory};
 use music_cli::{music, music_alone};
@@ -10,11 +11,11 @@ use std::thread::Threads;
 #[derive(Clone, Copy)]
 pub struct Case<'a> {
     words: &'a [&'a str],
-    text: &'a [u8],
+    text: &'a str,
     fails: &'a [u64],
     room: u16,
     status: u8,
-    taken: &'a [u8],
+    taken: &'a str,
 }
 
 /// The run of the spikes.
@@ -35,12 +36,6 @@ const REFUSED: Case<'static> = Case {
 
 const FAULTY: Case<'static> = Case { status: 3, ..RUN };
 
-/// A text that is longer than any that is read.
-const TOO_LONG: Case<'static> = Case {
-    taken: b"text fault: line 0: TooLong\n",
-    ..FAULTY
-};
-
 const CASES: &[Case<'static>] = &[
     RUN,
     Case {
@@ -54,38 +49,38 @@ const CASES: &[Case<'static>] = &[
         ..RUN
     },
     Case {
-        text: b"",
-        taken: b"text fault: line 1: Unbuilt\n",
+        text: "",
+        taken: "text fault: line 1: Unbuilt\n",
         ..FAULTY
     },
     Case {
-        text: b"stoptime=1\n[gen",
-        taken: b"text fault: line 2: BadLine\n",
+        text: "stoptime=1\n[gen",
+        taken: "text fault: line 2: BadLine\n",
         ..FAULTY
     },
     Case {
-        text: b"[a]\n[a]\n",
-        taken: b"text fault: line 2: RepeatedSection\n",
+        text: "[a]\n[a]\n",
+        taken: "text fault: line 2: RepeatedSection\n",
         ..FAULTY
     },
     Case {
-        text: b"[a]\nnp=1\nnp=1\n",
-        taken: b"text fault: line 3: RepeatedSetting\n",
+        text: "[a]\nnp=1\nnp=1\n",
+        taken: "text fault: line 3: RepeatedSetting\n",
         ..FAULTY
     },
     Case {
-        text: b"a.b -> c.d [0]",
-        taken: b"text fault: line 1: BadWidth\n",
+        text: "a.b -> c.d [0]",
+        taken: "text fault: line 1: BadWidth\n",
         ..FAULTY
     },
     Case {
-        text: b"[a b]",
-        taken: b"text fault: line 1: BadName\n",
+        text: "[a b]",
+        taken: "text fault: line 1: BadName\n",
         ..FAULTY
     },
     Case {
-        text: b"\n\n\x00",
-        taken: b"text fault: line 3: BadByte\n",
+        text: "\n\n\0",
+        taken: "text fault: line 3: BadByte\n",
         ..FAULTY
     },
     Case {
@@ -104,14 +99,14 @@ const CASES: &[Case<'static>] = &[
     Case {
         room: 40,
         status: 7,
-        taken: b"clock,app,port,kind,rank,local,global,ti",
+        taken: "clock,app,port,kind,rank,local,global,ti",
         ..RUN
     },
     // a source that fails its second call
     Case {
         fails: &[2],
         status: 6,
-        taken: b"read fault\n",
+        taken: "read fault\n",
         ..RUN
     },
 ];
@@ -127,7 +122,10 @@ pub struct Ends {
 /// What a run of the case is made of.
 pub fn ends_of(alloc: Global, case: &Case<'_>) -> Result<Ends, NoMemory> {
     let words = words_of(alloc, case.words)?;
-    let (text, fails) = (case.text.to_vec(alloc)?, case.fails.to_vec(alloc)?);
+    let (text, fails) = (
+        case.text.as_bytes().to_vec(alloc)?,
+        case.fails.to_vec(alloc)?,
+    );
     let source = MemorySource::make(text, 10, fails);
     let sink = MemorySink::make(alloc, 40, u64::from(case.room))?;
     Ok(Ends {
@@ -138,7 +136,7 @@ pub fn ends_of(alloc: Global, case: &Case<'_>) -> Result<Ends, NoMemory> {
 }
 
 fn is_answered(rt: &impl Abort, case: &Case<'_>, status: u8, taken: &[u8]) {
-    let is_right = status == case.status && taken == case.taken;
+    let is_right = status == case.status && taken == case.taken.as_bytes();
     assert!(rt; is_right, "status {status}, {taken:?}");
 }
 
@@ -161,13 +159,9 @@ fn is_run<R: Abort + Threads + Wait + Sync>(
     Ok(())
 }
 
-fn blanks_are_run(rt: &impl Abort, alloc: Global, count: usize) -> Result<(), NoMemory> {
-    let text = blanks(alloc, count)?;
-    let case = Case {
-        text: &text,
-        ..TOO_LONG
-    };
-    is_run_alone(rt, alloc, &case)
+fn are_too_many(alloc: Global, count: usize) -> Result<bool, NoMemory> {
+    let answer = b"text fault: line 0: TooLong\n";
+    gets(alloc, "run", blanks(alloc, count)?, 3, answer)
 }
 
 #[test]
@@ -186,5 +180,5 @@ fn the_program_gives_the_answers(rt: HostRuntime) {
 
 #[test]
 fn a_text_that_is_too_long_is_refused(rt: HostRuntime) {
-    assert!(rt; blanks_are_run(&rt, rt.alloc(), 1_048_577).is_ok());
+    assert!(rt; are_too_many(rt.alloc(), 1_048_577) == Ok(true));
 }

@@ -1,7 +1,7 @@
 //! The scene of the spikes and its log, and words.
 use std::alloc::{AllocError, Global};
 
-pub const SPIKES: &[u8] = b"stoptime=0.003
+pub const SPIKES: &str = "stoptime=0.003
 [gen]
 np=1
 binary=script
@@ -17,7 +17,7 @@ gen.spikes -> sink.in [10]
 ";
 
 /// The same, where the sink maps two indices that no event has.
-pub const UNHEARD: &[u8] = b"stoptime=0.003
+pub const UNHEARD: &str = "stoptime=0.003
 [gen]
 np=1
 binary=script
@@ -33,7 +33,7 @@ gen.spikes -> sink.in [10]
 ";
 
 /// The same, where the sink's ticks are ten of the source's, and an event comes every four.
-pub const SLOW: &[u8] = b"stoptime=0.02
+pub const SLOW: &str = "stoptime=0.02
 [gen]
 np=1
 binary=script
@@ -49,7 +49,7 @@ gen.spikes -> sink.in [10]
 ";
 
 /// Five applications and six connections, of events, values and messages.
-pub const TWO_NETWORKS: &[u8] = b"stoptime=0.004
+pub const TWO_NETWORKS: &str = "stoptime=0.004
 binary=script
 [clk]
 np=1
@@ -84,15 +84,15 @@ clk.note -> wave.cmd
 wave.level -> watch.level [2]
 ";
 
-pub const HEADER: &[u8] = b"clock,app,port,kind,rank,local,global,time,value\n";
+pub const HEADER: &str = "clock,app,port,kind,rank,local,global,time,value\n";
 
-pub const SPIKES_LOG: &[u8] = b"clock,app,port,kind,rank,local,global,time,value
+pub const SPIKES_LOG: &str = "clock,app,port,kind,rank,local,global,time,value
 0,sink,in,event,0,3,3,500000,
 1000000,sink,in,event,0,3,3,1500000,
 2000000,sink,in,event,0,3,3,2500000,
 ";
 
-pub const SLOW_LOG: &[u8] = b"clock,app,port,kind,rank,local,global,time,value
+pub const SLOW_LOG: &str = "clock,app,port,kind,rank,local,global,time,value
 0,sink,in,event,0,3,3,500000,
 0,sink,in,event,0,3,3,4500000,
 0,sink,in,event,0,3,3,8500000,
@@ -100,8 +100,8 @@ pub const SLOW_LOG: &[u8] = b"clock,app,port,kind,rank,local,global,time,value
 10000000,sink,in,event,0,3,3,16500000,
 ";
 
-pub const USAGE: &[u8] =
-    b"usage: music check | plan | order | run [--workers N] | load --number N [--workers N]\n";
+pub const USAGE: &str =
+    "usage: music check | plan | order | run [--workers N] | load --number N [--workers N]\n";
 
 /// Words as the program gets them.
 pub fn words_of(alloc: Global, words: &[&str]) -> Result<Vec<String>, AllocError> {

@@ -1,8 +1,8 @@
 //! Configuration texts: what they spell, told by its canonical spelling, and the faults of those that spell nothing.
 use crate::texts::blanks;
 use config_text::TextKind::{
-    BadByte, BadLine, BadName, BadWidth, RepeatedSection, RepeatedSetting, TooLong, TooManyLinks,
-    TooManySections,
+    BadByte, BadLine, BadName, BadOption, BadWidth, RepeatedSection, RepeatedSetting, TooLong,
+    TooManyLinks, TooManySections,
 };
 use config_text::{Config, TextFault, TextKind, lookup, read_config, write_config};
 use music_base::{Name, NoMemory, Word, is_name};
@@ -30,6 +30,18 @@ const SPELLED: &[(&[u8], &[u8])] = &[
     (b"a=b->c", b"a=b->c\n"),
     (b"a.b -> c.d [ 7 ]", b"a.b -> c.d [7]\n"),
     (b"a.b -> c.d [65536]", b"a.b -> c.d [65536]\n"),
+    // from the receiver, and with what a connection states, in any order
+    (b"a.b <- c.d", b"c.d -> a.b\n"),
+    (
+        b"c.d<-a.b[007]buffered=2 latency=1e-3",
+        b"a.b -> c.d [7] latency=0.001 buffered=2\n",
+    ),
+    (
+        b"a.b -> c.d\tbuffered=1000000  latency=1000000",
+        b"a.b -> c.d latency=1000000 buffered=1000000\n",
+    ),
+    (b"a.b->c.d latency=0", b"a.b -> c.d latency=0\n"),
+    (b"a=b<-c", b"a=b<-c\n"),
     // any byte may stand in a comment
     (b"a=b # \x7f\x80\xff\x00\n", b"a=b\n"),
     // each section has settings of its own, and connections stand last
@@ -65,6 +77,12 @@ const FAULTY: &[(&[u8], u64, TextKind)] = &[
     (b"a.b -> c.d [7", 1, BadLine),
     (b"a.b\" -> c.d", 1, BadLine),
     (b"a . b -> c.d", 1, BadName),
+    (b"a.b<->c.d", 1, BadName),
+    (b"a.b -> c.d [7]]", 1, BadOption),
+    (b"a.b <- c.d latency=x", 1, BadOption),
+    (b"a.b -> c.d latency=0 latency=0", 1, BadOption),
+    (b"a.b -> c.d buffered=1000001", 1, BadOption),
+    (b"a.b -> c.d latency=1000000.000000001", 1, BadOption),
     (b"[a]]", 1, BadName),
     (b"[a] b=c", 1, BadLine),
     (b"hello", 1, BadLine),
@@ -104,6 +122,7 @@ const COUNTED: &[(Lines, &str, Option<TextKind>)] = &[
     (LINKS, "", None),
     (LINKS, "a.b -> c.d", Some(TooManyLinks)),
     (LINKS, "a.b -> c.d [0]", Some(BadWidth)),
+    (LINKS, "a.b -> c.d x", Some(BadOption)),
 ];
 
 const TWO_SECTIONS: &[u8] = b"np=1\n[a]\nnp=2\nx=3\n[b]\n";

@@ -7,43 +7,87 @@ use music_setup::{AppKind, SceneFault, SetupFault, setup};
 use port_match::LinkKind;
 use port_table::PortFault;
 use scene_model::wanted_blocks;
-use std::alloc::Global;
+use std::alloc::{AllocError, Global};
 
-/// The first event comes 10 ms late, and the receiver makes two steps of 1 ms.
-const LATE: &[u8] = b"stoptime=0.002
-binary=script
-timestep=0.001
-[gen]
-ports=out event spikes 0+10
-[sink]
-ports=in event in 0+10 latency 0.01
-gen.spikes -> sink.in [10]
-";
+/// A source and a sink of events: the stop, the times of each, what the input and the connection state, and how many blocks
+/// are wanted.
+type Wanted<'a> = (&'a str, &'a str, &'a str, &'a str, &'a str, u64);
 
-/// One step of the sender lasts as long as two of the receiver.
-const SLOW_SENDER: &[u8] = b"stoptime=0.002
-binary=script
-[gen]
-timestep=0.002
-ports=out event spikes 0+10
-[sink]
-timestep=0.001
-ports=in event in 0+10
-gen.spikes -> sink.in [10]
-";
-
-/// One step of the receiver lasts as long as ten of the sender, which makes twenty.
-const SLOW_RECEIVER: &[u8] = b"stoptime=0.02
-binary=script
-[gen]
-timestep=0.001
-ports=out event spikes 0+10
-args=emit spikes 3 every 0.004 from 0.0005
-[sink]
-timestep=0.01
-ports=in event in 0+10
-gen.spikes -> sink.in [10]
-";
+const WANTED: &[Wanted<'static>] = &[
+    ("0.003", "timestep=0.001", "timestep=0.001", "", "", 3),
+    // the first event comes 10 ms late, and the receiver makes two steps of 1 ms
+    (
+        "0.002",
+        "timestep=0.001",
+        "timestep=0.001",
+        " latency 0.01",
+        "",
+        0,
+    ),
+    (
+        "0.002",
+        "timestep=0.001",
+        "timestep=0.001",
+        "",
+        " latency=0.01",
+        0,
+    ),
+    // one step of the sender lasts as long as two of the receiver
+    ("0.002", "timestep=0.002", "timestep=0.001", "", "", 1),
+    // one step of the receiver lasts as long as ten of the sender, which makes twenty
+    ("0.02", "timestep=0.001", "timestep=0.01", "", "", 20),
+    // the sender starts within the receiver's second step, and by half a tick of latency its second block is late
+    (
+        "0.003",
+        "timestep=0.001\nstart=0.0015",
+        "timestep=0.001",
+        "",
+        "",
+        2,
+    ),
+    (
+        "0.003",
+        "timestep=0.001\nstart=0.0015",
+        "timestep=0.001",
+        " latency 0.0005",
+        "",
+        1,
+    ),
+    // the receiver starts in the middle of the sender's first step, and at the stop
+    (
+        "0.003",
+        "timestep=0.001",
+        "timestep=0.001\nstart=0.0005",
+        "",
+        "",
+        3,
+    ),
+    (
+        "0.003",
+        "timestep=0.001",
+        "timestep=0.001\nstart=0.003",
+        "",
+        "",
+        0,
+    ),
+    // either stops after its first step
+    (
+        "0.003",
+        "timestep=0.001",
+        "timestep=0.001\nstoptime=0.001",
+        "",
+        "",
+        1,
+    ),
+    (
+        "0.003",
+        "timestep=0.001\nstoptime=0.001",
+        "timestep=0.001",
+        "",
+        "",
+        1,
+    ),
+];
 
 /// A connection from events to values.
 const OTHER_KIND: &[u8] = b"stoptime=0.003
@@ -67,6 +111,16 @@ ports=in event in 3,1,3
 gen.spikes -> sink.in [10]
 ";
 
+fn spikes_of(alloc: Global, row: Wanted<'_>) -> Result<String, AllocError> {
+    let (stop, sender, receiver, input, link, _) = row;
+    let mut text = String::new(alloc);
+    writeln!(text, "stoptime={stop}\nbinary=script")?;
+    writeln!(text, "[gen]\n{sender}\nports=out event spikes 0+10")?;
+    writeln!(text, "[sink]\n{receiver}\nports=in event in 0+10{input}")?;
+    writeln!(text, "gen.spikes -> sink.in [10]{link}")?;
+    Ok(text)
+}
+
 /// How many blocks of the first connection of the text are wanted.
 fn first_wanted(alloc: Global, text: &[u8]) -> Option<u64> {
     let Ok(scene) = scene_of(alloc, text) else {
@@ -78,12 +132,20 @@ fn first_wanted(alloc: Global, text: &[u8]) -> Option<u64> {
     Some(wanted_blocks(&scene, LinkId(0)))
 }
 
+fn is_wanted(alloc: Global, row: Wanted<'_>) -> bool {
+    match spikes_of(alloc, row) {
+        Ok(text) => first_wanted(alloc, text.as_bytes()) == Some(row.5),
+        Err(_) => false,
+    }
+}
+
 /// Whether the text is set up to a scene of so many applications with these limits, none of which is stated.
 fn has_plan(alloc: Global, text: &[u8], apps: usize, limits: &[u64]) -> bool {
     match setup(alloc, text) {
         Ok(ready) => {
-            let stated = ready.plan.stated.as_slice().iter().any(|stated| *stated);
-            ready.scene.apps.len() == apps && ready.plan.limits.as_slice() == limits && !stated
+            let plan = ready.plan();
+            let stated = plan.stated.as_slice().iter().any(|stated| *stated);
+            ready.scene().apps.len() == apps && plan.limits.as_slice() == limits && !stated
         }
         Err(_) => false,
     }
@@ -122,25 +184,16 @@ fn text_fault(alloc: Global, text: &[u8]) -> Option<(u64, TextKind)> {
 }
 
 #[test]
-fn each_block_of_equal_ticks_is_wanted(rt: HostRuntime) {
-    assert!(rt; first_wanted(rt.alloc(), SPIKES) == Some(3));
-}
-
-#[test]
-fn blocks_that_come_behind_the_end_are_not_wanted(rt: HostRuntime) {
-    assert!(rt; first_wanted(rt.alloc(), LATE) == Some(0));
-}
-
-#[test]
-fn blocks_of_unequal_ticks_are_wanted(rt: HostRuntime) {
-    assert!(rt; first_wanted(rt.alloc(), SLOW_SENDER) == Some(1));
-    assert!(rt; first_wanted(rt.alloc(), SLOW_RECEIVER) == Some(20));
+fn blocks_are_wanted(rt: HostRuntime) {
+    for row in WANTED {
+        assert!(rt; is_wanted(rt.alloc(), *row), "{row:?}");
+    }
 }
 
 #[test]
 fn texts_are_set_up(rt: HostRuntime) {
     assert!(rt; has_plan(rt.alloc(), b"stoptime=0", 0, &[]));
-    assert!(rt; has_plan(rt.alloc(), SLOW_RECEIVER, 2, &[1]));
+    assert!(rt; has_plan(rt.alloc(), SPIKES, 2, &[1]));
     assert!(rt; has_plan(rt.alloc(), TWO_LATENCIES, 2, &[1, 4]));
 }
 
