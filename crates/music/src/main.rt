@@ -9,7 +9,7 @@ ghost use Rattle.std.specs.Vec.Iter.{into_iter_items};
 
 use music_base::{FreeGate, NoMemory, StdSink, StdSource};
 use music_cli::{Status, music};
-use std::alloc::Global;
+use std::alloc::{AllocError, Global};
 use std::env;
 use std::env::Args;
 use std::io::ErrorKind;
@@ -17,17 +17,16 @@ use std::process::ExitCode;
 use std::rt::Env;
 
 /// All arguments but the first, which is the program's name.
-fn behind_name(alloc: Global, args: Args) -> Result<Vec<String>, NoMemory>
+fn behind_name(alloc: Global, args: Args) -> Result<Vec<String>, AllocError>
     ensures { IfOk result (λ words. words.items ≡ drop 1 (into_iter_items args)) }
 {
-    let words = args.skip(1).collect(alloc)?;
-    Ok(words)
+    args.skip(1).collect(alloc)
 }
 
 /// The words behind the program's name. Where the arguments can't be read as text there are none, which are wrong words.
 fn words(rt: &(impl Env + AllocGlobal), alloc: Global) -> Result<Vec<String>, NoMemory> {
     match env::args(rt) {
-        Ok(args) => behind_name(alloc, args),
+        Ok(args) => Ok(behind_name(alloc, args)?),
         Err(error) if error.kind() == ErrorKind::OutOfMemory => Err(NoMemory),
         Err(_) => Ok(Vec::new(alloc)),
     }
