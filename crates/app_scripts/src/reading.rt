@@ -10,12 +10,9 @@ use crate::RuleFault;
 use crate::forms::rule_in;
 use crate::standing::fault_of;
 use music_base::{Items, Nanos, Word, steps_of};
-use scene_model::{PortDecl, Rule};
+use scene_model::{MOST_RULES, PortDecl, Rule};
 use std::alloc::Global;
 use text_words::split_declaration;
-
-/// How many rules an application may have.
-const MOST_RULES: usize = 1_024;
 
 /// The rule of a piece after the rules before it.
 #[tactic(auto, unfolding(crate::specs::Rules::rule_beside))]

@@ -16,10 +16,7 @@ ghost use Rattle.app_scripts.specs.Rules.{fault_of, is_named};
 
 use crate::RuleFault;
 use music_base::{Name, Nanos};
-use scene_model::{Direction, PortDecl, PortKind, Rule};
-
-/// How many periods of a rule the whole run may hold.
-const MOST_PERIODS: u128 = 1_000_000;
+use scene_model::{Direction, MOST_PERIODS, PortDecl, PortKind, Rule};
 
 /// The port of this name.
 fn port_named<'a>(ports: &'a [PortDecl], name: &[u8]) -> Option<&'a PortDecl>

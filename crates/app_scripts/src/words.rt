@@ -24,19 +24,8 @@ ghost use Rattle.app_scripts.specs.Forms.{
 };
 
 use music_base::{Nanos, Sample, count_up_to};
+use scene_model::{GREATEST_DENOMINATOR, GREATEST_INDEX, GREATEST_NUMERATOR, GREATEST_SHIFT};
 use text_words::{around, fixed, is_key, name_in, signed_within, split_word, time_in};
-
-/// How far from zero the shift of an index may lie.
-const GREATEST_SHIFT: u32 = 65_535;
-
-/// How far from zero the numerator of a scale may lie.
-const GREATEST_NUMERATOR: u32 = 1_000_000;
-
-/// How great the denominator of a scale may be.
-const GREATEST_DENOMINATOR: u32 = 1_000_000;
-
-/// The greatest global index.
-const GREATEST_INDEX: u32 = 65_535;
 
 #[tactic(auto, unfolding(crate::specs::Forms::index_word))]
 fn index_word(word: &[u8]) -> Option<u32>

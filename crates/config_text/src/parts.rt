@@ -1,6 +1,6 @@
 //! The parts of a line. They are lent from the line, so that reading a line takes no memory.
 
-ghost use Rattle.std.specs.Prelude.{◌≡◌, ◌==◌, ◌+◌, ◌<◌, ◌≤◌, ◌&&◌, ◌∷◌, ◌++◌, nat_lt, length, IfOk, IfSome, is_some, true};
+ghost use Rattle.std.specs.Prelude.{◌≡◌, ◌==◌, ◌+◌, ◌<◌, ◌≤◌, ◌&&◌, ◌∷◌, ◌++◌, nat_lt, length, IfOk, IfSome, Some, is_some, true};
 ghost use Rattle.std.specs.List.{position, position_or_len, list_all, list_any, before_first, after_first};
 ghost use Rattle.music_base.specs.Blanks.{is_blank};
 ghost use Rattle.config_text.specs.Bytes.{close_bracket, is_text_byte, is_quote};
@@ -164,6 +164,7 @@ pub fn around_blank(bytes: &[u8]) -> (&[u8], &[u8])
 /// What stands before the first such byte, and what stands after it.
 pub fn split_at(bytes: &[u8], byte: u8) -> Option<(&[u8], &[u8])>
     ensures parts { IfSome result (λ parts. bytes.now ≡ parts.0.now ++ byte ∷ parts.1.now) }
+    ensures first { IfSome result (λ parts. position (λ b. b == byte) bytes.now ≡ Some (length parts.0.now)) }
     ensures splits { is_some result ≡ is_some (position (λ b. b == byte) bytes.now) }
 {
     match byte_place(byte, bytes) {

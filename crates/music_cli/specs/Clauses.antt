@@ -62,6 +62,10 @@ pub record IsRead (bytes : List ℕ) (source : Ends) : Type 0 where
   pub whole : length bytes < most_read → IsAtEnd source.after
   pub unfailing : DidNotFail source
 
+-- the status is one that an answer comes with: it is below that of a read fault
+abbrev pub IsAnswered : ℕ → Type 0
+IsAnswered result = result ≤ 5
+
 -- ---- clauses for every source and sink
 
 -- the result is one of the statuses that can come to these words at all
@@ -95,7 +99,7 @@ pub record ShowsFaults (source sink : Ends) (result : ℕ) : Type 0 where
 -- where accepted words get a status below that of a read fault, the source was read to its end, or one byte further than
 -- the longest text, and status and text are what the words and these bytes get
 abbrev pub AnswersWhatWasRead : List (List ℕ) → Ends → Ends → ℕ → Type 0
-AnswersWhatWasRead words source sink result = IsTrue (are_accepted words) → result ≤ 5 →
+AnswersWhatWasRead words source sink result = IsTrue (are_accepted words) → IsAnswered result →
     (bytes : List ℕ) × IsRead bytes source × (status : Status) × (text : List ℕ) × (result ≡ number_of status) × Answers words bytes status text × Wrote text sink
 
 -- all that a source had left was read, or one byte more than the longest text has
@@ -106,7 +110,7 @@ ReadAllThatCounts source = (bytes : List ℕ) × Gave source.before bytes source
 -- counts of it was read
 pub record WasRead (words : List (List ℕ)) (source : Ends) (result : ℕ) : Type 0 where
   pub refused : are_accepted words ≡ false → Untouched source
-  pub accepted : IsTrue (are_accepted words) → result ≤ 5 → ReadAllThatCounts source
+  pub accepted : IsTrue (are_accepted words) → IsAnswered result → ReadAllThatCounts source
 
 -- the text of an answer to these words and bytes that were read of the source, that of a read fault where the source
 -- failed, and none where memory gave out
@@ -129,7 +133,7 @@ ReadsNoMore source = GaveAtMost most_read source.before source.after
 
 -- a status below that of a read fault comes with a text: both are what these words and bytes get
 abbrev pub HasAnswer : List (List ℕ) → Ends → Ends → ℕ → Type 0
-HasAnswer words source sink result = (bytes : List ℕ) → source.before ≡ Some bytes → result ≤ 5 →
+HasAnswer words source sink result = (bytes : List ℕ) → source.before ≡ Some bytes → IsAnswered result →
     (status : Status) × (text : List ℕ) × (result ≡ number_of status) × Answers words (read_part bytes) status text × Wrote text sink
 
 -- the text of an answer to these words and bytes, or that of a read fault where the source failed

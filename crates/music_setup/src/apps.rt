@@ -18,11 +18,8 @@ use app_scripts::read_rules;
 use config_text::Config;
 use music_base::{AppId, Items, Name, Nanos, TryCopy, Word};
 use port_table::read_ports;
-use scene_model::{AppDecl, PortDecl, Rule};
+use scene_model::{AppDecl, MOST_STEPS, PortDecl, Rule};
 use std::alloc::Global;
-
-/// How many steps an application makes at most.
-const MOST_STEPS: u64 = 1_000_000;
 
 /// The ports of an application of `np` processes.
 #[tactic(auto, using(crate::proofs::OfApps::ports_fault))]

@@ -11,14 +11,9 @@ ghost use Rattle.music_setup.specs.Apps.{end_in, is_script, np_in, start_in, sto
 use crate::SceneFault;
 use config_text::{Config, lookup};
 use music_base::{Name, Nanos, NoMemory, Word, count_up_to};
+use scene_model::{LONGEST_TICK, MOST_RANKS};
 use std::alloc::Global;
 use text_words::{is_key, time_in};
-
-/// How many processes an application has at most.
-const MOST_RANKS: u32 = 64;
-
-/// How long a tick is at most, in ns.
-const LONGEST_TICK: u64 = 1_000_000_000_000;
 
 /// The setting of an application, by its name: the section's own, else the default.
 pub fn setting<'a>(

@@ -8,10 +8,7 @@ ghost use Rattle.scene_model.specs.Values.{indices_mapped, values_by, values_in_
 
 use index_maps::{IndexMap, PortMap};
 use music_base::Rank;
-use scene_model::{PortDecl, PortKind};
-
-/// How many values an application has at most, in all of its steps.
-const MOST_VALUES: u64 = 1_000_000;
+use scene_model::{MOST_VALUES, PortDecl, PortKind};
 
 /// How many indices a rank maps.
 #[tactic(auto, using(index_maps::proofs::Ranges::length_range))]

@@ -12,7 +12,9 @@ use Rattle.music_base.specs.Names.{is_name}
 use Rattle.music_base.specs.Times.{greatest_time}
 use Rattle.text_words.specs.OneWord.{behind, name_in, time_in}
 use Rattle.plain_run.specs.FormWords.{split_once, name_before, time_behind}
-use Rattle.plain_run.specs.FormLines.{most_indices, greatest_index, PortLine, RuleLine, LinkLine, section_line, other_section_line, stop_line, is_tick, tick_line, span_in, port_line, emit_times, maps, is_period, rule_in, rule_fits, rule_line, end_in, width_in, link_line, link_fits, width_line}
+use Rattle.index_maps.specs.declared.span.TheConstants.{INDEX_LIMIT}
+use Rattle.scene_model.specs.Limits.{greatest_index, greatest_width}
+use Rattle.plain_run.specs.FormLines.{PortLine, RuleLine, LinkLine, section_line, other_section_line, stop_line, is_tick, tick_line, span_in, port_line, emit_times, maps, is_period, rule_in, rule_fits, rule_line, end_in, width_in, link_line, link_fits, width_line}
 use Rattle.plain_run.specs.FirstForm.{SourceLines, SinkLines, next_line, says, exactly, process_lines, source_lines, sink_lines, no_line, last_line, form_of}
 use Rattle.plain_run.specs.LawfulForm.{IsTick, IsPeriod, IsSpan, IsMapped, IsNamed, IsLawfulForm}
 use Rattle.plain_run.proofs.Times.{time_value-most}
@@ -64,9 +66,9 @@ span_in-is : (text : List ℕ) → IfSome (span_in text) (λ span. IsSpan span.0
 unfolding span_in
 span_in-is text =
     IfSome-after _ _ (split_once (byte "+") text) (λ parts.
-    IfSome-after (λ span. IsSpan span.0 span.1) _ (count_up_to most_indices parts.0) (λ base.
-    IfSome-after (λ span. IsSpan span.0 span.1) _ (count_up_to most_indices parts.1) (λ size.
-    let span : ℕ × ℕ = (base, size) in IfSome-when (λ span. IsSpan span.0 span.1) span (nat_le (base + size) most_indices) (leb-true (base + size) most_indices))))
+    IfSome-after (λ span. IsSpan span.0 span.1) _ (count_up_to INDEX_LIMIT parts.0) (λ base.
+    IfSome-after (λ span. IsSpan span.0 span.1) _ (count_up_to INDEX_LIMIT parts.1) (λ size.
+    let span : ℕ × ℕ = (base, size) in IfSome-when (λ span. IsSpan span.0 span.1) span (nat_le (base + size) INDEX_LIMIT) (leb-true (base + size) INDEX_LIMIT))))
 
 record IsPort (port : PortLine) : Type 0 where
   name : is_name port.name ≡ true
@@ -120,15 +122,15 @@ rule_line-is stop tick out line =
     IfSome-bind _ _ _ (rule_in port.1) (rule_in-is port.1) (λ rule first.
     IfSome-when _ rule _ (λ fits. rule_fits-is stop tick out port.0 rule fits first))))
 
-width_in-is : (text : List ℕ) → IfSome (width_in text) (λ width. width ≤ most_indices)
+width_in-is : (text : List ℕ) → IfSome (width_in text) (λ width. width ≤ greatest_width)
 unfolding width_in
 width_in-is text =
     IfSome-after _ _ (behind (codes "[") text) (λ inner.
     IfSome-after _ _ (split_once (byte "]") inner) (λ parts.
-    IfSome-bind (λ width. nat_le width most_indices ≡ true) (λ width. width ≤ most_indices) _ (count_up_to most_indices parts.0) (count_up_to-is most_indices parts.0) (λ width within.
-    IfSome-when (λ width. width ≤ most_indices) width (nat_eq (length parts.1) 0 && nat_le 1 width) (λ _. leb-true width most_indices within))))
+    IfSome-bind (λ width. nat_le width greatest_width ≡ true) (λ width. width ≤ greatest_width) _ (count_up_to greatest_width parts.0) (count_up_to-is greatest_width parts.0) (λ width within.
+    IfSome-when (λ width. width ≤ greatest_width) width (nat_eq (length parts.1) 0 && nat_le 1 width) (λ _. leb-true width greatest_width within))))
 
-link_line-is : (line : List ℕ) → IfSome (link_line line) (λ link. link.width ≤ most_indices)
+link_line-is : (line : List ℕ) → IfSome (link_line line) (λ link. link.width ≤ greatest_width)
 unfolding link_line
 link_line-is line =
     IfSome-after _ _ (end_in line) (λ from.
@@ -139,9 +141,9 @@ link_line-is line =
 record IsWidth (out input : PortLine) (width : ℕ) : Type 0 where
   covers_out : out.base + out.size ≤ width
   covers_input : input.base + input.size ≤ width
-  most : width ≤ most_indices
+  most : width ≤ greatest_width
 
-link_fits-is : (from : List ℕ) (out : PortLine) (to : List ℕ) (input : PortLine) (link : LinkLine) → link_fits from out to input link ≡ true → link.width ≤ most_indices → IsWidth out input link.width
+link_fits-is : (from : List ℕ) (out : PortLine) (to : List ℕ) (input : PortLine) (link : LinkLine) → link_fits from out to input link ≡ true → link.width ≤ greatest_width → IsWidth out input link.width
 unfolding link_fits
 link_fits-is from out to input link fits most =
     let parts = and_parts _ _ fits in

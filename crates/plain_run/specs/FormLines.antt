@@ -5,25 +5,9 @@ use Rattle.music_base.specs.Clocks.{steps_until}
 use Rattle.music_base.specs.Counts.{count_up_to}
 use Rattle.text_words.specs.Options.{◌>>=◌, ◌when◌}
 use Rattle.text_words.specs.OneWord.{behind, time_in}
+use Rattle.index_maps.specs.declared.span.TheConstants.{INDEX_LIMIT}
+use Rattle.scene_model.specs.Limits.{longest_tick, most_steps, most_periods, greatest_index, greatest_width}
 use Rattle.plain_run.specs.FormWords.{split_once, name_before, time_behind}
-
--- ---- limits
-
-abbrev pub longest_tick : ℕ
-longest_tick = 1000000000000
-
-abbrev pub most_steps : ℕ
-most_steps = 1000000
-
-abbrev pub most_periods : ℕ
-most_periods = 1000000
-
--- one more than the greatest index, and the greatest width
-abbrev pub most_indices : ℕ
-most_indices = 65536
-
-abbrev pub greatest_index : ℕ
-greatest_index = 65535
 
 -- ---- sections
 
@@ -68,9 +52,9 @@ pub record PortLine : Type 0 where
 unfoldable pub span_in : List ℕ → Option (ℕ × ℕ)
 span_in text = do
   parts ← split_once (byte "+") text
-  base ← count_up_to most_indices parts.0
-  size ← count_up_to most_indices parts.1
-  (base, size) when nat_le (base + size) most_indices
+  base ← count_up_to INDEX_LIMIT parts.0
+  size ← count_up_to INDEX_LIMIT parts.1
+  (base, size) when nat_le (base + size) INDEX_LIMIT
 
 -- NAME B+N behind the front
 unfoldable pub port_line : List ℕ → List ℕ → Option PortLine
@@ -151,7 +135,7 @@ unfoldable pub width_in : List ℕ → Option ℕ
 width_in text = do
   inner ← behind (codes "[") text
   parts ← split_once (byte "]") inner
-  width ← count_up_to most_indices parts.0
+  width ← count_up_to greatest_width parts.0
   width when (nat_eq (length parts.1) 0 && nat_le 1 width)
 
 -- NAME.NAME -> NAME.NAME [WIDTH]

@@ -4,7 +4,9 @@ use Rattle.music_base.specs.Names.{is_name}
 use Rattle.music_base.specs.Clocks.{steps_until}
 use Rattle.music_base.specs.Times.{greatest_time}
 use Rattle.plain_run.specs.declared.form.FirstForm.{FirstForm}
-use Rattle.plain_run.specs.FormLines.{longest_tick, most_steps, most_periods, most_indices, periods}
+use Rattle.index_maps.specs.declared.span.TheConstants.{INDEX_LIMIT}
+use Rattle.scene_model.specs.Limits.{longest_tick, most_steps, most_periods, greatest_width}
+use Rattle.plain_run.specs.FormLines.{periods}
 
 -- a tick of 1 ns or more, not too long, with which an application does not run too many steps until the stop
 pub record IsTick (stop tick : ℕ) : Type 0 where
@@ -19,7 +21,7 @@ pub record IsPeriod (stop tick every : ℕ) : Type 0 where
 
 -- base and size of a map of indices
 abbrev pub IsSpan : ℕ → ℕ → Type 0
-IsSpan base size = base + size ≤ most_indices
+IsSpan base size = base + size ≤ INDEX_LIMIT
 
 -- an index that base and size map
 pub record IsMapped (base size index : ℕ) : Type 0 where
@@ -43,4 +45,4 @@ pub record IsLawfulForm (form : FirstForm) : Type 0 where
   pub first : form.first ≤ greatest_time
   pub covers_source : form.from_base + form.from_size ≤ form.width
   pub covers_sink : form.to_base + form.to_size ≤ form.width
-  pub width : form.width ≤ most_indices
+  pub width : form.width ≤ greatest_width

@@ -5,20 +5,10 @@ ghost use Rattle.plain_run.specs.FormLines.{section_line, other_section_line, st
 ghost use Rattle.plain_run.specs.FormViews.{seen_port, seen_rule, seen_link};
 
 use crate::form_words::{name_before, split_once, time_behind};
+use index_maps::INDEX_LIMIT;
 use music_base::{Nanos, count_up_to, steps_of};
+use scene_model::{GREATEST_INDEX, LONGEST_TICK, MOST_PERIODS, MOST_STEPS};
 use text_words::{behind, time_in};
-
-/// The longest tick, in nanoseconds.
-const LONGEST_TICK: u64 = 1_000_000_000_000;
-
-/// How many steps an application may run.
-const MOST_STEPS: u64 = 1_000_000;
-
-/// How many periods of a rule may end before the application's end.
-const MOST_PERIODS: u128 = 1_000_000;
-
-/// How many indices there are.
-const MOST_INDICES: u32 = 65_536;
 
 /// `[NAME]`
 #[tactic(auto, unfolding(crate::specs::FormLines::section_line))]
@@ -81,9 +71,9 @@ fn span_in(text: &[u8]) -> Option<(u32, u32)>
     ensures { result ≡ span_in text.now }
 {
     let (first, second) = split_once(b'+', text)?;
-    let base = count_up_to(MOST_INDICES, first)?;
-    let size = count_up_to(MOST_INDICES, second)?;
-    if base + size <= MOST_INDICES {
+    let base = count_up_to(INDEX_LIMIT, first)?;
+    let size = count_up_to(INDEX_LIMIT, second)?;
+    if base + size <= INDEX_LIMIT {
         Some((base, size))
     } else {
         None
@@ -145,7 +135,7 @@ fn rule_in(text: &[u8]) -> Option<RulePart>
     ensures { option_map seen_rule result ≡ rule_in text.now }
 {
     let (word, rest) = split_once(b' ', text)?;
-    let index = count_up_to(MOST_INDICES - 1, word)?;
+    let index = count_up_to(GREATEST_INDEX, word)?;
     let (every, first) = emit_times(rest)?;
     Some(RulePart {
         index,
@@ -205,7 +195,7 @@ fn width_in(text: &[u8]) -> Option<u32>
 {
     let inner = behind(b"[", text)?;
     let (word, rest) = split_once(b']', inner)?;
-    let width = count_up_to(MOST_INDICES, word)?;
+    let width = count_up_to(INDEX_LIMIT, word)?;
     if rest.is_empty() && 1 <= width {
         Some(width)
     } else {

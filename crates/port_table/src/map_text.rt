@@ -9,7 +9,7 @@ ghost use Rattle.port_table.specs.Stated.{map_stated, rank_stated};
 use crate::entries::Entries;
 use index_maps::{INDEX_LIMIT, Span};
 use music_base::{NoMemory, byte_place, count_up_to};
-use scene_model::Direction;
+use scene_model::{Direction, GREATEST_INDEX};
 use std::alloc::Global;
 use text_words::{around, behind, cut_at};
 
@@ -58,7 +58,7 @@ fn index_list(alloc: Global, text: &[u8]) -> Result<Option<Entries>, NoMemory>
     let mut rest = Some(text);
     while let Some(bytes) = rest {
         let (part, others) = cut_at(b',', bytes);
-        match count_up_to(INDEX_LIMIT - 1, part) {
+        match count_up_to(GREATEST_INDEX, part) {
             Some(index) => list.push(index)?,
             None => return Ok(None),
         }

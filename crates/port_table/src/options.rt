@@ -5,7 +5,7 @@ ghost use Rattle.text_words.specs.Words.{words};
 ghost use Rattle.port_table.specs.Options.{latency_in, delay_in, buffered_in, interpolate_in, flag_in, valued_in, is_flag, options_in, no_options, takes_latency, takes_delay};
 
 use music_base::{Nanos, count_up_to};
-use scene_model::{Direction, PortKind};
+use scene_model::{Direction, MOST_BUFFERED, PortKind};
 use text_words::{is_key, split_word, time_in};
 
 /// The options that stand in a declaration.
@@ -16,9 +16,6 @@ pub struct Options {
     pub interpolate: Option<bool>,
     pub buffered: Option<u64>,
 }
-
-/// How many ticks a port may buffer at most.
-const MOST_BUFFERED: u32 = 1_000_000;
 
 const NO_OPTIONS: Options = Options {
     latency: None,

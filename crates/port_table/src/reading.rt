@@ -14,12 +14,9 @@ use crate::options::{Options, options_in};
 use crate::port_text::{heading_in, map_part};
 use index_maps::{MapFault, PortMap};
 use music_base::{Items, Name, Nanos, NoMemory, Word};
-use scene_model::{Direction, PortDecl, PortKind};
+use scene_model::{Direction, MOST_PORTS, PortDecl, PortKind};
 use std::alloc::Global;
 use text_words::split_declaration;
-
-/// How many ports an application has at most.
-const MOST_PORTS: usize = 64;
 
 fn has_name(before: &[PortDecl], name: &[u8]) -> bool
     ensures { result ≡ list_any (λ (port : PortDecl). bytes_eq port.name name.now) before.now }

@@ -30,4 +30,4 @@ accepted_pass scene ok accepted limits are =
     (found.0, each_passes scene limits found.0 are.counted (limits_some scene ok limits are) found.2)
 
 pub accepted_live : (scene : Scene) → IsWellFormed scene → IsAccepted scene → (limits : List ℕ) → AreLimits scene limits → IsLive scene limits
-accepted_live scene ok accepted limits are = let found = accepted_pass scene ok accepted limits are in live scene ok limits found.0 found.1
+accepted_live scene ok accepted limits are = let found = accepted_pass scene ok accepted limits are in live scene ok limits found.0 are.counted found.1

@@ -255,5 +255,8 @@ enabled scene ok limits potentials passes s sound = go (search_below (length sce
     go (inl (a, app, left)) = inl (descend scene ok limits potentials passes s sound low.0 low.1 (suc (unsigned_abs (value_of scene potentials s a +ℤ pos low.0))) a (app, left) (magnitude (value_of scene potentials s a +ℤ pos low.0)))
     go (inr all) = inr all
 
-pub live : (scene : Scene) → IsWellFormed scene → (limits : List ℕ) (potentials : List ℤ) → EachPasses scene limits potentials → IsLive scene limits
-live scene ok limits potentials passes acts lawful = enabled scene ok limits potentials passes (after_all (opening_counts scene) acts) (lawful_sound scene limits acts lawful)
+pub live : (scene : Scene) → IsWellFormed scene → (limits : List ℕ) (potentials : List ℤ) → length limits ≡ length scene.links → EachPasses scene limits potentials → IsLive scene limits
+live scene ok limits potentials counted passes = record {
+  one_each = counted;
+  goes_on = λ acts lawful. enabled scene ok limits potentials passes (after_all (opening_counts scene) acts) (lawful_sound scene limits acts lawful.1);
+}

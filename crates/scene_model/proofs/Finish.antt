@@ -93,5 +93,6 @@ module _ (scene : Scene) (limits : List ℕ) where
 pub can_finish : (scene : Scene) (limits : List ℕ) → IsLive scene limits → (acts : List Act) → IsLawful scene limits acts → (more : List Act) × IsLawful scene limits (acts ++ more) × AllFinished scene (after_all (opening_counts scene) (acts ++ more))
 can_finish scene limits live acts lawful =
     let s : Counts = after_all (opening_counts scene) acts in
-    let found = finish scene limits (left_of scene s) s (lawful_sound scene limits acts lawful) (goes_on scene limits (opening_counts scene) acts live lawful) (omega arith) in
-    (found.0, lawful_join scene limits (opening_counts scene) acts found.0 lawful found.1, subst (AllFinished scene) (after_join scene limits (opening_counts scene) acts found.0) found.2)
+    let on = goes_on scene limits (opening_counts scene) acts (λ more then. live.goes_on more (live.one_each, then)) lawful.1 in
+    let found = finish scene limits (left_of scene s) s (lawful_sound scene limits acts lawful.1) on (omega arith) in
+    (found.0, (lawful.0, lawful_join scene limits (opening_counts scene) acts found.0 lawful.1 found.1), subst (AllFinished scene) (after_join scene limits (opening_counts scene) acts found.0) found.2)

@@ -95,8 +95,9 @@ abbrev pub IsLawfulFrom : Scene → List ℕ → Counts → List Act → Type 0
 IsLawfulFrom scene limits s [] = ⊤
 IsLawfulFrom scene limits s (act ∷ acts) = IsAllowed scene limits s act × IsLawfulFrom scene limits (after s act) acts
 
+-- there is one limit for each connection, and each act is allowed, from the opening counts on
 abbrev pub IsLawful : Scene → List ℕ → List Act → Type 0
-IsLawful scene limits acts = IsLawfulFrom scene limits (opening_counts scene) acts
+IsLawful scene limits acts = (length limits ≡ length scene.links) × IsLawfulFrom scene limits (opening_counts scene) acts
 
 -- an application is finished where its steps were all run and their wanted blocks put
 pub record IsFinished (scene : Scene) (s : Counts) (a : ℕ) : Type 0 where
@@ -136,7 +137,8 @@ pub record IsSound (scene : Scene) (limits : List ℕ) (s : Counts) : Type 0 whe
 abbrev pub SomeAllowed : Scene → List ℕ → Counts → Type 0
 SomeAllowed scene limits s = (act : Act) × IsAllowed scene limits s act
 
--- after every lawful order some act is allowed or every application is finished
-abbrev pub IsLive : Scene → List ℕ → Type 0
-IsLive scene limits =
-    (acts : List Act) → IsLawful scene limits acts → SomeAllowed scene limits (after_all (opening_counts scene) acts) ⊎ AllFinished scene (after_all (opening_counts scene) acts)
+-- there is one limit for each connection, and after every lawful order some act is allowed or every application is finished
+pub record IsLive (scene : Scene) (limits : List ℕ) : Type 0 where
+  pub one_each : length limits ≡ length scene.links
+  pub goes_on : (acts : List Act) → IsLawful scene limits acts →
+      SomeAllowed scene limits (after_all (opening_counts scene) acts) ⊎ AllFinished scene (after_all (opening_counts scene) acts)

@@ -13,6 +13,7 @@ mod ends;
 mod fault_laws;
 mod laws;
 mod life_laws;
+mod limits;
 mod order_laws;
 mod port;
 mod row;
@@ -34,6 +35,10 @@ pub use cover_laws::passed_waits_are_covered;
 pub use fault_laws::{faultless_by_place, worked_faults_show, worked_scenes_have_no_fault};
 pub use laws::{worked_events_hold, worked_log_holds, worked_turns_hold, worked_values_hold};
 pub use life_laws::{history_can_be_written, lives_are_proper, values_of_the_history_fit};
+pub use limits::{
+    GREATEST_DENOMINATOR, GREATEST_INDEX, GREATEST_NUMERATOR, GREATEST_SHIFT, LONGEST_TICK,
+    MOST_BUFFERED, MOST_PERIODS, MOST_PORTS, MOST_RANKS, MOST_RULES, MOST_STEPS, MOST_VALUES,
+};
 pub use order_laws::{
     accepted_scenes_are_live, accepted_scenes_have_limits, acts_are_of_unfinished,
     acts_keep_counts_sound, covered_waits_have_potentials, limits_are_one, live_scenes_can_finish,

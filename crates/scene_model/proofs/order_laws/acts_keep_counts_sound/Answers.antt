@@ -8,4 +8,4 @@ pub returns-clause-acts : goal.returns-clause-acts
 returns-clause-acts c scene limits s act sound can = after_act scene limits s sound act can
 
 pub returns-clause-orders : goal.returns-clause-orders
-returns-clause-orders c scene limits acts lawful = lawful_sound scene limits acts lawful
+returns-clause-orders c scene limits acts lawful = lawful_sound scene limits acts lawful.1

@@ -3,7 +3,7 @@ use Rattle.std.specs.Prelude.{slice_index, min}
 use Rattle.music_base.specs.Clocks.{steps_until}
 use Rattle.scene_model.specs.Clocks.{allowance, latency, delay, start, tick, steps, wanted, wanted_blocks}
 use Rattle.scene_model.specs.Scenes.{sender, receiver}
-use Rattle.scene_model.specs.Orders.{IsLawful, AllFinished, after_all, opening_counts}
+use Rattle.scene_model.specs.Orders.{IsLawfulFrom, AllFinished, after_all, opening_counts}
 use Rattle.scene_model.specs.WorkedOrders.{one_step, one_step_order}
 use Rattle.scene_model.proofs.worked_orders.worked_order_holds.Goals as goal
 
@@ -12,7 +12,7 @@ only : (P : ℕ → Type 0) → P 0 → (c : ℕ) → c < 1 → P c
 only P p zero lt = p
 only P p (suc c) lt = absurd (omega arith)
 
-lawful : IsLawful one_step (1 ∷ []) one_step_order
+lawful : IsLawfulFrom one_step (1 ∷ []) (opening_counts one_step) one_step_order
 unfolding allowance latency delay start tick steps steps_until wanted sender receiver
 lawful = (
   record { app = omega arith; step_left = omega arith; all_taken = only (λ c. receiver one_step c ≡ 0 → slice_index (0 ∷ []) c ≡ wanted one_step c 0) (λ e. absurd (omega arith)); all_put = only (λ c. sender one_step c ≡ 0 → slice_index (0 ∷ []) c ≡ min 0 (wanted_blocks one_step c)) (λ e. refl) },
@@ -35,4 +35,4 @@ finished (suc zero) lt = record { all_run = refl; all_put = only (λ c. sender o
 finished (suc (suc a)) lt = absurd (omega arith)
 
 pub returns : goal.returns
-returns c = record { lawful = lawful; finished = finished }
+returns c = record { lawful = (refl, lawful); finished = finished }
