@@ -44,8 +44,4 @@ rules_of ports tick span text = in_turn (rule_beside ports tick (runs_for span t
 -- the reading has this fault; nothing is said of want of memory
 abbrev pub IsFaultOf : {A : Type 0} → Result A RuleFault → RuleFault → Type 0
 IsFaultOf reading Memory = ⊤
-IsFaultOf reading (RuleText place) = reading ≡ Err (RuleText place)
-IsFaultOf reading (RulePort place) = reading ≡ Err (RulePort place)
-IsFaultOf reading (RuleIndex place) = reading ≡ Err (RuleIndex place)
-IsFaultOf reading (RuleAfter place) = reading ≡ Err (RuleAfter place)
-IsFaultOf reading (RuleRate place) = reading ≡ Err (RuleRate place)
+IsFaultOf reading fault = reading ≡ Err fault

@@ -6,6 +6,7 @@ use Rattle.std.specs.List.{list_any, before_first, after_first}
 use Rattle.std.specs.Result.{result_ok}
 use Rattle.music_base.specs.Blanks.{space}
 use Rattle.music_base.specs.Counts.{count_up_to}
+use Rattle.music_base.specs.declared.limits.TheConstants.{MOST_BUFFERED}
 use Rattle.music_base.specs.Times.{canonical_time, greatest_time, time_value}
 use Rattle.text_words.specs.Options.{◌>>=◌, ◌when◌}
 use Rattle.text_words.specs.Words.{words}
@@ -17,7 +18,7 @@ no_options = record { latency = None; buffered = None }
 
 -- no connection states that it keeps more blocks
 abbrev pub most_buffered : ℕ
-most_buffered = 1000000
+most_buffered = MOST_BUFFERED
 
 -- ---- how they are read
 

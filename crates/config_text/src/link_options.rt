@@ -1,13 +1,11 @@
 //! The options of a connection.
 
 ghost use Rattle.std.specs.Prelude.{◌≡◌};
-ghost use Rattle.std.specs.Result.{result_ok};
-ghost use Rattle.music_base.specs.Times.{time_value};
 ghost use Rattle.config_text.specs.Options.{latency_in, buffered_in, option_named, option_in, options_in};
 
 use crate::parts::has;
-use music_base::{count_up_to, read_time};
-use text_words::{around, is_key, split_word};
+use music_base::{MOST_BUFFERED, count_up_to};
+use text_words::{around, is_key, split_word, time_in};
 
 /// What a connection states of its own. Each is stated or not, and the latency is in nanoseconds.
 #[derive(Clone, Copy)]
@@ -16,22 +14,10 @@ pub struct LinkOptions {
     pub buffered: Option<u64>,
 }
 
-/// No connection states that it keeps more blocks.
-const MOST_BUFFERED: u32 = 1_000_000;
-
 const NO_OPTIONS: LinkOptions = LinkOptions {
     latency: None,
     buffered: None,
 };
-
-fn time_in(text: &[u8]) -> Option<u64>
-    ensures { result ≡ result_ok (time_value text.now) }
-{
-    match read_time(text) {
-        Ok(time) => Some(time.0),
-        Err(_) => None,
-    }
-}
 
 fn latency_in(options: LinkOptions, text: &[u8]) -> Option<LinkOptions>
     ensures { result ≡ latency_in options text.now }
@@ -41,7 +27,7 @@ fn latency_in(options: LinkOptions, text: &[u8]) -> Option<LinkOptions>
         return None;
     }
     Some(LinkOptions {
-        latency: Some(time),
+        latency: Some(time.0),
         ..options
     })
 }

@@ -10,6 +10,7 @@ mod counts;
 mod errors;
 mod gate;
 mod item;
+mod limits;
 mod list;
 mod memory_sink;
 mod memory_source;
@@ -35,6 +36,7 @@ pub use counts::{count_up_to, is_negative, is_short_count, number_of, without_si
 pub use errors::{Failed, NoMemory};
 pub use gate::{FreeGate, Gate};
 pub use item::{Block, Event, Item, Message};
+pub use limits::MOST_BUFFERED;
 pub use list::Items;
 pub use memory_sink::MemorySink;
 pub use memory_source::MemorySource;

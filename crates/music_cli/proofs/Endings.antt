@@ -7,7 +7,7 @@ use Rattle.std.proofs.Math.Seq.{take-append_seam}
 use Rattle.music_base.specs.Outside.{Gave, GaveAtMost, TookPrefix, IsAtEnd}
 use Rattle.music_base.proofs.Transfers.{TookPrefix-nothing}
 use Rattle.music_cli.specs.Words.{command_of, are_accepted}
-use Rattle.music_cli.specs.Answers.{AnswersCommand, Answers, CanDo, number_of, outcomes_of, usage_text, read_fault_text}
+use Rattle.music_cli.specs.Answers.{AnswersCommand, Answers, CanDo, can_end, number_of, usage_text, read_fault_text}
 use Rattle.music_cli.specs.Clauses.{Ends, DidNotFail, NotUsage, HasReadFaultCause, HasWriteFaultCause, ShowsFaults, Untouched, Wrote, most_read, read_part, IsStatus, IsUsage, AnswersWhatWasRead, ReadAllThatCounts, WasRead, HasSomePrefix, HasAnswer, HasPrefix, IsComplete, IsSaid, IsRead, Ended, refused, source_failed, no_memory, answered}
 use Rattle.music_cli.proofs.SomeAnswers.{some_answer, text_done, usage_answer}
 use Rattle.music_cli.proofs.Outcomes.{answer_outcome, memory_outcome, no_failure, read_fault_outcome, usage_outcome, write_fault_outcome}
@@ -44,22 +44,22 @@ reads_nothing most (Some left) = ([], (refl, omega arith))
 
 -- ---- the clauses
 
-outcome_of_said : (words : List (List ℕ)) (said : Status) (text : List ℕ) (sink : Ends) (status : Status) → Contains (outcomes_of (command_of words)) said → IsSaid said text sink status
-    → Contains (outcomes_of (command_of words)) status
+outcome_of_said : (words : List (List ℕ)) (said : Status) (text : List ℕ) (sink : Ends) (status : Status) → can_end (command_of words) said ≡ true → IsSaid said text sink status
+    → can_end (command_of words) status ≡ true
 outcome_of_said words said text sink status can is = elim is.cases [
-  | inl done ↦ subst (Contains (outcomes_of (command_of words))) (sym done.0) can
-  | inr fault ↦ subst (Contains (outcomes_of (command_of words))) (sym fault.0) (write_fault_outcome (command_of words))
+  | inl done ↦ ap (can_end (command_of words)) done.0 ∙ can
+  | inr fault ↦ ap (can_end (command_of words)) fault.0 ∙ write_fault_outcome (command_of words)
 ]
 
-outcome : (words : List (List ℕ)) (source sink : Ends) (status : Status) → Ended words source sink status → Contains (outcomes_of (command_of words)) status
+outcome : (words : List (List ℕ)) (source sink : Ends) (status : Status) → Ended words source sink status → can_end (command_of words) status ≡ true
 outcome words source sink status (refused not_so untouched said) = outcome_of_said words Usage usage_text sink status (usage_outcome (command_of words) not_so) said
 outcome words source sink status (source_failed accepted failed said) = outcome_of_said words ReadFault read_fault_text sink status (read_fault_outcome (command_of words) accepted) said
-outcome words source sink status (no_memory accepted memory calm same) = subst (Contains (outcomes_of (command_of words))) (sym memory) (memory_outcome (command_of words) accepted)
+outcome words source sink status (no_memory accepted memory calm same) = ap (can_end (command_of words)) memory ∙ memory_outcome (command_of words) accepted
 outcome words source sink status (answered accepted bytes read given) = elim given.cases [
-  | inl done ↦ subst (Contains (outcomes_of (command_of words))) (sym done.0) (answer_outcome (command_of words) bytes given.status given.text given.found_so)
+  | inl done ↦ ap (can_end (command_of words)) done.0 ∙ answer_outcome (command_of words) bytes given.status given.text given.found_so
   | inr gave_out ↦ elim gave_out [
-    | inl fault ↦ subst (Contains (outcomes_of (command_of words))) (sym fault.0) (write_fault_outcome (command_of words))
-    | inr memory ↦ subst (Contains (outcomes_of (command_of words))) (sym memory.0) (memory_outcome (command_of words) accepted)
+    | inl fault ↦ ap (can_end (command_of words)) fault.0 ∙ write_fault_outcome (command_of words)
+    | inr memory ↦ ap (can_end (command_of words)) memory.0 ∙ memory_outcome (command_of words) accepted
   ]
 ]
 

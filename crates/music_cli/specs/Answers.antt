@@ -1,5 +1,5 @@
 -- The status and the text that words and bytes get.
-use Rattle.std.specs.Prelude.{◌≡◌, ◌⊎◌, ℕ, List, [], ◌∷◌, ◌++◌, length, Option, Some, None, Result, Ok, Err, IsOk, codes}
+use Rattle.std.specs.Prelude.{◌≡◌, ◌⊎◌, ℕ, Bool, true, false, List, [], ◌∷◌, ◌++◌, length, Option, Some, None, Result, Ok, Err, IsOk, codes}
 use Rattle.std.specs.Fmt.{decimal}
 use Rattle.plain_run.specs.FirstForm.{first_form}
 use Rattle.config_text.specs.Text.{Spells, HasFault}
@@ -47,16 +47,30 @@ status_of (setup.Link _ _) = SceneFault
 status_of (setup.Uncovered _) = CycleFault
 status_of setup.Memory = NoMemory
 
--- the outcomes of a command that asks for the scene
-abbrev pub scene_outcomes : List Status
-scene_outcomes = Done ∷ TextFault ∷ SceneFault ∷ CycleFault ∷ ReadFault ∷ WriteFault ∷ NoMemory ∷ []
+-- refused words end with the usage line, or with a write fault
+abbrev pub ends_refusal : Status → Bool
+ends_refusal Usage = true
+ends_refusal WriteFault = true
+ends_refusal _ = false
 
--- the outcomes that can come at all: where the words are refused, and of each command
-abbrev pub outcomes_of : Option Command → List Status
-outcomes_of None = Usage ∷ WriteFault ∷ []
-outcomes_of (Some Check) = scene_outcomes
-outcomes_of (Some Plan) = scene_outcomes
-outcomes_of (Some Run) = Done ∷ TextFault ∷ ReadFault ∷ WriteFault ∷ NoMemory ∷ []
+-- a command that asks for the scene ends with anything but the usage line
+abbrev pub ends_scene : Status → Bool
+ends_scene Usage = false
+ends_scene _ = true
+
+-- the run of a first form meets no fault of a scene and no cycle
+abbrev pub ends_form : Status → Bool
+ends_form Usage = false
+ends_form SceneFault = false
+ends_form CycleFault = false
+ends_form _ = true
+
+-- whether an outcome can come at all: where the words are refused, and of each command
+abbrev pub can_end : Option Command → Status → Bool
+can_end None = ends_refusal
+can_end (Some Check) = ends_scene
+can_end (Some Plan) = ends_scene
+can_end (Some Run) = ends_form
 
 -- ---- texts
 

@@ -1,5 +1,5 @@
 -- What holds of each call of the program, over any source and any sink.
-use Rattle.std.specs.Prelude.{⊤, ◌≡◌, ◌≢◌, ◌⊎◌, ℕ, ◌<◌, ◌≤◌, ◌+◌, true, false, List, [], length, take, Option, Some, Ok, IsTrue, Contains}
+use Rattle.std.specs.Prelude.{⊤, ◌≡◌, ◌≢◌, ◌⊎◌, ℕ, ◌<◌, ◌≤◌, ◌+◌, true, false, List, [], length, take, Option, Some, Ok, IsTrue}
 use Rattle.music_base.specs.Causes.{Rose}
 use Rattle.music_base.specs.Outside.{Gave, GaveAtMost, IsAtEnd, Took, TookPrefix}
 use Rattle.config_text.specs.Lines.{longest_text}
@@ -8,7 +8,7 @@ use Rattle.config_text.specs.declared.config.Config.{Config}
 use Rattle.scene_model.specs.declared.scene.Scene.{Scene}
 use Rattle.music_setup.specs.Scenes.{scene_of}
 use Rattle.music_cli.specs.Words.{command_of, are_accepted}
-use Rattle.music_cli.specs.Answers.{Answers, CanDo, HasLiveLimits, number_of, outcomes_of, usage_text, read_fault_text}
+use Rattle.music_cli.specs.Answers.{Answers, CanDo, HasLiveLimits, can_end, number_of, usage_text, read_fault_text}
 use Rattle.music_cli.specs.declared.command_line.Command.{Command}
 use Rattle.music_cli.specs.declared.command_line.Command.TheVariants.{Check, Plan, Run}
 use Rattle.music_cli.specs.declared.status.Status.{Status}
@@ -70,7 +70,7 @@ IsAnswered result = result ≤ 5
 
 -- the result is one of the statuses that can come to these words at all
 abbrev pub IsStatus : List (List ℕ) → ℕ → Type 0
-IsStatus words result = (status : Status) × Contains (outcomes_of (command_of words)) status × (result ≡ number_of status)
+IsStatus words result = (status : Status) × IsTrue (can_end (command_of words) status) × (result ≡ number_of status)
 
 -- accepted words never get the status of wrong words
 abbrev pub NotUsage : List (List ℕ) → ℕ → Type 0

@@ -75,4 +75,4 @@ links_of apps texts = in_turn (link_at_place apps) [] texts
 -- the reading has this fault; nothing is said of want of memory
 abbrev pub IsFaultOf : {A : Type 0} → Result A MatchFault → MatchFault → Type 0
 IsFaultOf reading faults.Memory = ⊤
-IsFaultOf reading (faults.Link place kind) = reading ≡ Err (faults.Link place kind)
+IsFaultOf reading fault = reading ≡ Err fault

@@ -103,6 +103,4 @@ ports_of np text = in_turn (port_beside np) [] (declarations text)
 -- the reading has this fault; nothing is said of want of memory
 abbrev pub IsFaultOf : {A : Type 0} → Result A PortFault → PortFault → Type 0
 IsFaultOf reading Memory = ⊤
-IsFaultOf reading (PortText place) = reading ≡ Err (PortText place)
-IsFaultOf reading (MapRepeated place index) = reading ≡ Err (MapRepeated place index)
-IsFaultOf reading (OutputTwice place index) = reading ≡ Err (OutputTwice place index)
+IsFaultOf reading fault = reading ≡ Err fault

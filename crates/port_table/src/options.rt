@@ -4,8 +4,8 @@ ghost use Rattle.std.specs.Prelude.{◌≡◌, ◌≤◌, ◌∷◌, length, IfS
 ghost use Rattle.text_words.specs.Words.{words};
 ghost use Rattle.port_table.specs.Options.{latency_in, delay_in, buffered_in, interpolate_in, flag_in, valued_in, is_flag, options_in, no_options, takes_latency, takes_delay};
 
-use music_base::{Nanos, count_up_to};
-use scene_model::{Direction, MOST_BUFFERED, PortKind};
+use music_base::{MOST_BUFFERED, Nanos, count_up_to};
+use scene_model::{Direction, PortKind};
 use text_words::{is_key, split_word, time_in};
 
 /// The options that stand in a declaration.

@@ -1,8 +1,9 @@
 -- The limits of a scene. Each is itself accepted. The greatest time and the limit of global indices stand in the crates
 -- below.
 use Rattle.std.specs.Prelude.{ℕ, ◌-◌, ◌^◌}
+use Rattle.music_base.specs.declared.limits.TheConstants.{MOST_BUFFERED}
 use Rattle.index_maps.specs.declared.span.TheConstants.{INDEX_LIMIT}
-use Rattle.scene_model.specs.declared.limits.TheConstants.{MOST_RANKS, MOST_PORTS, MOST_RULES, MOST_BUFFERED, GREATEST_INDEX, LONGEST_TICK, MOST_STEPS, MOST_VALUES, MOST_PERIODS, GREATEST_SHIFT, GREATEST_NUMERATOR, GREATEST_DENOMINATOR}
+use Rattle.scene_model.specs.declared.limits.TheConstants.{MOST_RANKS, MOST_PORTS, MOST_RULES, GREATEST_INDEX, LONGEST_TICK, MOST_STEPS, MOST_VALUES, MOST_PERIODS, GREATEST_SHIFT, GREATEST_NUMERATOR, GREATEST_DENOMINATOR}
 
 -- ---- how many there are
 

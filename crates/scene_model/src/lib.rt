@@ -37,7 +37,7 @@ pub use laws::{worked_events_hold, worked_log_holds, worked_turns_hold, worked_v
 pub use life_laws::{history_can_be_written, lives_are_proper, values_of_the_history_fit};
 pub use limits::{
     GREATEST_DENOMINATOR, GREATEST_INDEX, GREATEST_NUMERATOR, GREATEST_SHIFT, LONGEST_TICK,
-    MOST_BUFFERED, MOST_PERIODS, MOST_PORTS, MOST_RANKS, MOST_RULES, MOST_STEPS, MOST_VALUES,
+    MOST_PERIODS, MOST_PORTS, MOST_RANKS, MOST_RULES, MOST_STEPS, MOST_VALUES,
 };
 pub use order_laws::{
     accepted_scenes_are_live, accepted_scenes_have_limits, acts_are_of_unfinished,

@@ -1,5 +1,5 @@
-//! The limits of a scene. Each is itself accepted. The greatest time and the limit of global indices stand in the crates
-//! below.
+//! The limits of a scene. Each is itself accepted. The greatest time, how much may be buffered, and the limit of global
+//! indices stand in the crates below.
 
 /// How many processes an application has at most, each a rank.
 pub const MOST_RANKS: u32 = 64;
@@ -9,9 +9,6 @@ pub const MOST_PORTS: usize = 64;
 
 /// How many rules an application has at most.
 pub const MOST_RULES: usize = 1_024;
-
-/// How many ticks a port may state at most that it buffers.
-pub const MOST_BUFFERED: u32 = 1_000_000;
 
 /// The greatest global index.
 pub const GREATEST_INDEX: u32 = 65_535;

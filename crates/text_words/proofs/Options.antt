@@ -49,13 +49,6 @@ IfSome-each P f is (x ∷ xs) =
     IfSome-bind P (AllByRecursion P) _ (f x) (is x) (λ y here.
     IfSome-bind (AllByRecursion P) (AllByRecursion P) _ (each f xs) (IfSome-each P f is xs) (λ ys there. (here, there)))
 
--- these are as many
-pub length-each : {A B : Type 0} (f : A → Option B) (xs : List A) → IfSome (each f xs) (λ ys. length ys ≡ length xs)
-length-each f [] = refl
-length-each f (x ∷ xs) =
-    IfSome-after (λ ys. length ys ≡ suc (length xs)) _ (f x) (λ y.
-    IfSome-bind (λ ys. length ys ≡ length xs) (λ ys. length ys ≡ suc (length xs)) _ (each f xs) (length-each f xs) (λ ys same. ap suc same))
-
 -- a count that is spelled is not above its limit
 pub count_up_to-is : (most : ℕ) (text : List ℕ) → IfSome (count_up_to most text) (λ n. nat_le n most ≡ true)
 unfolding count_up_to
