@@ -14,3 +14,6 @@ pub mod TimeSpelling
 pub mod Transfers
 pub mod WrittenTimes
 pub mod BytePlace
+pub mod Gathered
+pub mod Pairs
+pub mod Sorting

@@ -25,6 +25,15 @@ pub All-filter : {X : Type 0} (P : X → Type 0) (p : X → Bool) (xs : List X) 
 All-filter P p [] h = h
 All-filter P p (x ∷ xs) h = elim (cases_Bool (p x)) [ inl t ↦ rw t (h.0, All-filter P p xs h.1) | inr e ↦ rw e (All-filter P p xs h.1) ]
 
+-- what is left has passed the test besides
+pub All-passing : {X : Type 0} (P : X → Type 0) (p : X → Bool) (xs : List X) → AllByRecursion P xs → AllByRecursion (λ x. P x × (p x ≡ true)) (filter p xs)
+All-passing P p [] h = h
+All-passing {X} P p (x ∷ xs) h = go (p x) refl (All-passing P p xs h.1)
+  where
+    go : (b : Bool) → p x ≡ b → AllByRecursion (λ y. P y × (p y ≡ true)) (filter p xs) → AllByRecursion (λ y. P y × (p y ≡ true)) (cond b (x ∷ filter p xs) (filter p xs))
+    go true e rest = ((h.0, e), rest)
+    go false e rest = rest
+
 pub All-map : {X Y : Type 0} (P : Y → Type 0) (f : X → Y) (xs : List X) → AllByRecursion (λ x. P (f x)) xs → AllByRecursion P (map f xs)
 All-map P f [] h = h
 All-map P f (x ∷ xs) h = (h.0, All-map P f xs h.1)
@@ -65,7 +74,7 @@ All-when P true xs h = h refl
 All-when P false xs h = tt
 
 -- putting in order adds nothing
-All-put_in_order : {X : Type 0} (P : X → Type 0) (cmp : X → X → Ordering) (x : X) (xs : List X) → P x → AllByRecursion P xs → AllByRecursion P (put_in_order cmp x xs)
+pub All-put_in_order : {X : Type 0} (P : X → Type 0) (cmp : X → X → Ordering) (x : X) (xs : List X) → P x → AllByRecursion P xs → AllByRecursion P (put_in_order cmp x xs)
 All-put_in_order P cmp x [] is h = (is, tt)
 All-put_in_order P cmp x (y ∷ ys) is h = elim (cases_Bool (is_gt (cmp x y))) [
   | inl later ↦ rw later (h.0, All-put_in_order P cmp x ys is h.1)
@@ -178,6 +187,15 @@ pub map-agree : {X Y : Type 0} (f g : X → Y) → ((x : X) → f x ≡ g x) →
 map-agree f g same [] = refl
 map-agree f g same (x ∷ xs) = rw (same x, map-agree f g same xs) refl
 
+-- functions that agree on each element
+pub map-agree_each : {X Y : Type 0} (f g : X → Y) (xs : List X) → AllByRecursion (λ x. f x ≡ g x) xs → map f xs ≡ map g xs
+map-agree_each f g [] same = refl
+map-agree_each f g (x ∷ xs) same = rw (same.0, map-agree_each f g xs same.1) refl
+
+pub flat_map-agree_each : {X A : Type 0} (f g : X → List A) (xs : List X) → AllByRecursion (λ x. f x ≡ g x) xs → flat_map f xs ≡ flat_map g xs
+flat_map-agree_each f g [] same = refl
+flat_map-agree_each f g (x ∷ xs) same = rw (same.0, flat_map-agree_each f g xs same.1) refl
+
 pub map-map : {X Y Z : Type 0} (g : Y → Z) (f : X → Y) (xs : List X) → map g (map f xs) ≡ map (λ x. g (f x)) xs
 map-map g f [] = refl
 map-map g f (x ∷ xs) = ap (λ ys. g (f x) ∷ ys) (map-map g f xs)
@@ -228,6 +246,9 @@ pub range_with_len-more : (a n : ℕ) → range_with_len a (n + 1) ≡ range_wit
 range_with_len-more a n = sym (range_with_len-append a n 1)
 
 -- functions that agree on these numbers
+pub map-agree_within : {A : Type 0} (f g : ℕ → A) (a n : ℕ) → ((k : ℕ) → a ≤ k → k < a + n → f k ≡ g k) → map f (range_with_len a n) ≡ map g (range_with_len a n)
+map-agree_within f g a n same = map-agree_each f g (range_with_len a n) (All-between (λ k. f k ≡ g k) a n same)
+
 pub flat_map-agree_within : {A : Type 0} (f g : ℕ → List A) (a n : ℕ) → ((k : ℕ) → a ≤ k → k < a + n → f k ≡ g k) → flat_map f (range_with_len a n) ≡ flat_map g (range_with_len a n)
 flat_map-agree_within f g a zero same = refl
 flat_map-agree_within f g a (suc n) same =

@@ -42,7 +42,7 @@ progression-ascends first every a (suc n) = (
 
 -- ---- putting in order
 
-put_in_order-front : {X : Type 0} (cmp : X → X → Ordering) (x : X) (xs : List X) → AllByRecursion (λ y. is_gt (cmp x y) ≡ false) xs → put_in_order cmp x xs ≡ x ∷ xs
+pub put_in_order-front : {X : Type 0} (cmp : X → X → Ordering) (x : X) (xs : List X) → AllByRecursion (λ y. is_gt (cmp x y) ≡ false) xs → put_in_order cmp x xs ≡ x ∷ xs
 put_in_order-front cmp x [] h = refl
 put_in_order-front cmp x (y ∷ ys) h = rw h.0 refl
 

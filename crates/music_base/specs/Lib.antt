@@ -13,3 +13,5 @@ pub mod TimeTexts
 pub mod Wants
 pub mod Held
 pub mod TimeCuts
+pub mod Items
+pub mod Pairs
