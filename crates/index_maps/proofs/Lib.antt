@@ -3,6 +3,7 @@ pub mod Counts
 pub mod Joining
 pub mod OneSpan
 pub mod Pigeonholes
+pub mod Positions
 pub mod Ranges
 pub mod Repeats
 pub mod Sharing
