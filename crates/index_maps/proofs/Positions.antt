@@ -1,5 +1,5 @@
 -- Where an index stands in a list in which none comes twice.
-use Rattle.std.proofs.Common.{◌≡◌, ◌⊎◌, inl, inr, ℕ, ◌+◌, ◌<◌, ◌≤◌, Bool, true, false, nat_eq, nat_lt, List, length, get_or, sym, subst, ◌∙◌, refl, arith}
+use Rattle.std.proofs.Common.{◌≡◌, inl, inr, ℕ, ◌<◌, true, false, nat_eq, nat_lt, List, length, get_or, sym, subst, ◌∙◌, refl, arith}
 use Rattle.std.specs.Prelude.{◌==◌, is_some, slice_index}
 use Rattle.std.specs.List.{filter, list_any, position, position_or_len, range_with_len}
 use Rattle.std.specs.Option.{option_to_list}

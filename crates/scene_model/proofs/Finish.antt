@@ -21,12 +21,12 @@ actor_unfinished scene limits s (Put c) can done = omega (arith, can.is_wanted, 
 
 -- ---- what is left to do
 
-total_below-same : (f g : ℕ → ℕ) (n i : ℕ) → n ≤ i → ((j : ℕ) → (j ≡ i → ⊥) → f j ≡ g j) → total_below f n ≡ total_below g n
+pub total_below-same : (f g : ℕ → ℕ) (n i : ℕ) → n ≤ i → ((j : ℕ) → (j ≡ i → ⊥) → f j ≡ g j) → total_below f n ≡ total_below g n
 total_below-same f g zero i le others = refl
 total_below-same f g (suc n) i le others = omega (arith, others n (λ e. omega arith), total_below-same f g n i (omega arith) others)
 
 -- a sum in which one number is one more
-total_below-more : (f g : ℕ → ℕ) (n i : ℕ) → i < n → g i ≡ f i + 1 → ((j : ℕ) → (j ≡ i → ⊥) → f j ≡ g j) → total_below g n ≡ total_below f n + 1
+pub total_below-more : (f g : ℕ → ℕ) (n i : ℕ) → i < n → g i ≡ f i + 1 → ((j : ℕ) → (j ≡ i → ⊥) → f j ≡ g j) → total_below g n ≡ total_below f n + 1
 total_below-more f g zero i lt more others = absurd (omega arith)
 total_below-more f g (suc n) i lt more others = go (cases_eq n i) (λ less. total_below-more f g n i less more others)
   where
@@ -35,7 +35,7 @@ total_below-more f g (suc n) i lt more others = go (cases_eq n i) (λ less. tota
     go (inr ne) rest = omega (arith, others n ne, rest (omega arith))
 
 -- how much is left, where xs counts what was done of each of n
-abbrev left_below : (ℕ → ℕ) → List ℕ → ℕ → ℕ
+abbrev pub left_below : (ℕ → ℕ) → List ℕ → ℕ → ℕ
 left_below most xs n = total_below (λ i. most i - slice_index xs i) n
 
 left_below-one : (most : ℕ → ℕ) (xs : List ℕ) (n i : ℕ) → i < n → i < length xs → slice_index xs i < most i → left_below most xs n ≡ left_below most (one_more xs i) n + 1
@@ -43,10 +43,10 @@ left_below-one most xs n i small there below =
     total_below-more (λ j. most j - slice_index (one_more xs i) j) (λ j. most j - slice_index xs j) n i small (omega (arith, one_more-same xs i there)) (λ j ne. omega (arith, one_more-other xs i j ne))
 
 -- the steps to run, and the blocks to put and to take
-abbrev left_of : Scene → Counts → ℕ
+abbrev pub left_of : Scene → Counts → ℕ
 left_of scene s = left_below (steps scene) s.run (length scene.apps) + left_below (wanted_blocks scene) s.put (length scene.links) + left_below (wanted_blocks scene) s.taken (length scene.links)
 
-takes_one : (scene : Scene) (limits : List ℕ) (s : Counts) → IsSound scene limits s → (act : Act) → IsAllowed scene limits s act → left_of scene s ≡ left_of scene (after s act) + 1
+pub takes_one : (scene : Scene) (limits : List ℕ) (s : Counts) → IsSound scene limits s → (act : Act) → IsAllowed scene limits s act → left_of scene s ≡ left_of scene (after s act) + 1
 takes_one scene limits s sound (Run a) can = let one = left_below-one (steps scene) s.run (length scene.apps) a can.app (omega (arith, can.app, sound.runs)) can.step_left in omega arith
 takes_one scene limits s sound (Put c) can = let one = left_below-one (wanted_blocks scene) s.put (length scene.links) c can.link (omega (arith, can.link, sound.puts)) can.is_wanted in omega arith
 takes_one scene limits s sound (Take c) can =

@@ -33,3 +33,9 @@ pub mod Emissions
 pub mod ProperLives
 pub mod WrittenLives
 pub mod WrittenRows
+pub mod Mapped
+pub mod RuleCases
+pub mod Feeds
+pub mod Wanting
+pub mod ByClock
+pub mod TotalOrders

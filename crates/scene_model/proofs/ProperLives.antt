@@ -9,6 +9,7 @@ use Rattle.std.proofs.lemmas.List.Elements.{recursion_from_All}
 use Rattle.std.proofs.lemmas.List.Sums.{AllPass-from_list_all}
 use Rattle.music_base.specs.declared.item.Item.{Item}
 use Rattle.music_base.specs.declared.item.Item.TheVariants.{Event, Value, Message}
+use Rattle.music_base.specs.Items.{AreValues, IsMessageWithin}
 use Rattle.music_base.proofs.Lists.{All-flat_map_of, All-map, All-weaker, All-when}
 use Rattle.index_maps.specs.Maps.{indices, maps_index}
 use Rattle.scene_model.specs.Clocks.{span, tick, steps, clock}
@@ -17,7 +18,7 @@ use Rattle.scene_model.specs.Lives.{again, life, moment, state_before, step_outp
 use Rattle.scene_model.specs.Ports.{names_differ}
 use Rattle.scene_model.specs.Rules.{after_fits, has_port, indices_stand, is_mapped, is_rate, ports_stand, rate_fits, runs_for, stands}
 use Rattle.scene_model.specs.Scenes.{app_at, no_port, port_at}
-use Rattle.scene_model.specs.Tables.{AreValues, IsEventWithin, IsMessageWithin, IsProper, IsProperBlock, StepOutput, Table, step_of, steps_of}
+use Rattle.scene_model.specs.Tables.{IsEventWithin, IsProper, IsProperBlock, StepOutput, Table, step_of, steps_of}
 use Rattle.scene_model.specs.Turns.{Moment, clock_of, emissions, emitted, end_of, event, event_mapped, input_items, is_over, is_within, message, passed, port_named, port_output, replied, same_name, target_of, times_within, turn, value_given, with_state}
 use Rattle.scene_model.specs.declared.port.Direction.{Direction}
 use Rattle.scene_model.specs.declared.port.Direction.TheVariants.{Output, Input}
@@ -124,7 +125,7 @@ module _ (m : Moment) (lasts : ℕ) (ticks : 1 ≤ m.tick) where
 
   -- ---- what a turn puts out
 
-  are_values : (f : ℕ → ℤ) (gs : List ℕ) → AreValues gs (map (λ g. Value g (f g)) gs)
+  pub are_values : (f : ℕ → ℤ) (gs : List ℕ) → AreValues gs (map (λ g. Value g (f g)) gs)
   are_values f [] = tt
   are_values f (g ∷ gs) = (refl, are_values f gs)
 
@@ -150,7 +151,7 @@ module _ (m : Moment) (lasts : ℕ) (ticks : 1 ≤ m.tick) where
     proper_by Output Events is = may_emit Events is
     proper_by Output Messages is = may_emit Messages is
 
-    turn_is_proper : IsProperBlock port.direction port.kind port (clock_of m) (end_of m) (slice_index_or (turn rules state m) p [])
+    pub turn_is_proper : IsProperBlock port.direction port.kind port (clock_of m) (end_of m) (slice_index_or (turn rules state m) p [])
     unfolding turn
     turn_is_proper =
         let at : slice_index_or (turn rules state m) p [] ≡ port_output rules state m port.direction port.kind port =
@@ -160,21 +161,21 @@ module _ (m : Moment) (lasts : ℕ) (ticks : 1 ≤ m.tick) where
 -- ---- where things stand in a table of lives
 
 module _ (scene : Scene) (table : Table) where
-  length-again : length (again scene table) ≡ length scene.apps
+  pub length-again : length (again scene table) ≡ length scene.apps
   length-again = length-map-range_with_len (life scene table) 0 (length scene.apps)
 
-  steps_of-again : (a : ℕ) → a < length scene.apps → steps_of (again scene table) a ≡ life scene table a
+  pub steps_of-again : (a : ℕ) → a < length scene.apps → steps_of (again scene table) a ≡ life scene table a
   steps_of-again a app = get_or-map-range_with_len (life scene table) 0 (length scene.apps) a a [] app (omega arith)
 
-  length-steps_of : (a : ℕ) → a < length scene.apps → length (steps_of (again scene table) a) ≡ steps scene a
+  pub length-steps_of : (a : ℕ) → a < length scene.apps → length (steps_of (again scene table) a) ≡ steps scene a
   length-steps_of a app = ap length (steps_of-again a app) ∙ length-map-range_with_len (step_output scene table a) 0 (steps scene a)
 
-  step_of-again : (a k : ℕ) → a < length scene.apps → k < length (steps_of (again scene table) a)
+  pub step_of-again : (a k : ℕ) → a < length scene.apps → k < length (steps_of (again scene table) a)
       → step_of (again scene table) a k ≡ step_output scene table a k
   step_of-again a k app small = ap (λ (row : List StepOutput). slice_index_or row k []) (steps_of-again a app)
       ∙ get_or-map-range_with_len (step_output scene table a) 0 (steps scene a) k k [] (omega (arith, length-steps_of a app)) (omega arith)
 
-  length-step_output : (a k : ℕ) → length (step_output scene table a k) ≡ length (app_at scene a).ports
+  pub length-step_output : (a k : ℕ) → length (step_output scene table a k) ≡ length (app_at scene a).ports
   unfolding step_output turn
   length-step_output a k = length-map (app_at scene a).ports _
 
@@ -185,7 +186,7 @@ module _ (scene : Scene) (table : Table) where
         let port : PortDecl = port_at scene a p in
         IsProperBlock port.direction port.kind port (clock scene a k) (clock scene a (k + 1)) (slice_index_or output p [])
 
-    step_is_proper : (a k p : ℕ) → a < length scene.apps → p < length (app_at scene a).ports → IsProperAt a k p (step_output scene table a k)
+    pub step_is_proper : (a k p : ℕ) → a < length scene.apps → p < length (app_at scene a).ports → IsProperAt a k p (step_output scene table a k)
     unfolding step_output tick
     step_is_proper a k p app lt =
         let is : IsApp (app_at scene a) = app_is scene faultless a app in

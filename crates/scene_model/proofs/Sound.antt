@@ -154,7 +154,7 @@ after_acts scene limits (act ∷ acts) s sound lawful = after_acts scene limits 
 -- ---- the opening counts
 
 -- zeros are zero, also past their end
-zero_at : (n i : ℕ) → slice_index (replicate n 0) i ≡ 0
+pub zero_at : (n i : ℕ) → slice_index (replicate n 0) i ≡ 0
 zero_at zero i = refl
 zero_at (suc n) zero = refl
 zero_at (suc n) (suc i) = zero_at n i

@@ -86,3 +86,13 @@ wanted_before scene c (suc j) = wanted scene c j
 -- how many blocks some step of the receiver wants
 abbrev pub wanted_blocks : Scene → ℕ → ℕ
 wanted_blocks scene c = wanted_before scene c (steps scene (receiver scene c))
+
+-- ---- times of values
+
+-- the clock of step j of a connection's receiver
+abbrev pub clock_at : Scene → ℕ → ℕ → ℕ
+clock_at scene c j = clock scene (receiver scene c) j
+
+-- the clock of the receiver at which the first sample of a connection is read: a delay behind the sender's start
+abbrev pub first_at : Scene → ℕ → ℕ
+first_at scene c = start scene (sender scene c) + delay scene c

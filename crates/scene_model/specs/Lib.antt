@@ -2,6 +2,7 @@
 pub mod Scenes
 pub mod Clocks
 pub mod Tables
+pub mod Due
 pub mod Turns
 pub mod Lives
 pub mod Logs
@@ -22,6 +23,7 @@ pub mod Cover
 pub mod Waits
 pub mod WellFormed
 pub mod Orders
+pub mod Passing
 pub mod WorkedWaits
 pub mod WorkedOrders
 pub mod Together

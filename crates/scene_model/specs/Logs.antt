@@ -1,5 +1,5 @@
 -- The rows of a table, and the log of a scene.
-use Rattle.std.specs.Prelude.{ℕ, Bool, true, ◌&&◌, ◌==◌, nat_lt, List, [], ◌∷◌, ◌++◌, map, length, slice_index, ℤ, codes}
+use Rattle.std.specs.Prelude.{ℕ, Bool, true, ◌&&◌, ◌==◌, nat_lt, List, [], ◌∷◌, ◌++◌, map, length, slice_index, slice_index_or, ℤ, codes}
 use Rattle.std.specs.List.{filter, flat_map, join_with_byte}
 use Rattle.std.specs.declared.cmp.Ordering.{Ordering}
 use Rattle.std.specs.Ordering.{ordering_then, nat_cmp}
@@ -12,7 +12,7 @@ use Rattle.music_base.specs.declared.item.Item.TheVariants.{Event, Value, Messag
 use Rattle.index_maps.specs.Maps.{globals_of, rank_count}
 use Rattle.scene_model.specs.Scenes.{app_at, port_at}
 use Rattle.scene_model.specs.Clocks.{steps, clock}
-use Rattle.scene_model.specs.Tables.{Table, arrivals, value}
+use Rattle.scene_model.specs.Tables.{StepOutput, Table, arrivals, value, value_in}
 use Rattle.scene_model.specs.Lives.{history}
 use Rattle.scene_model.specs.declared.scene.Scene.{Scene}
 use Rattle.scene_model.specs.declared.row.Row.{Row}
@@ -55,6 +55,25 @@ rank_rows scene table b j p r =
 unfoldable pub step_rows : Scene → Table → ℕ → ℕ → List Row
 step_rows scene table b j =
     flat_map (λ p. flat_map (rank_rows scene table b j p) (below (rank_count (port_at scene b p).map))) (below (length (app_at scene b).ports))
+
+-- ---- the rows of what was read
+
+-- what a rank that maps these indices gets of the items that its port read in a step
+abbrev pub rank_items_in : Direction → PortKind → List ℕ → List Item → List RowItem
+rank_items_in Output kind globals items = []
+rank_items_in Input Values globals items = read_at globals (value_in items)
+rank_items_in Input _ globals items = flat_map (arrived_at globals) items
+
+abbrev pub port_rows_in : Scene → ℕ → ℕ → ℕ → List Item → ℕ → List Row
+port_rows_in scene b j p items r =
+    map (λ item. record { clock = clock scene b j; app = b; port = p; rank = r; item = item })
+    (rank_items_in (port_at scene b p).direction (port_at scene b p).kind (globals_of (port_at scene b p).map r) items)
+
+-- the rows of step j of application b whose ports read these lists of items: port by port, and rank by rank. No table stands
+-- in them; a law says that they are step_rows where the inputs read the table
+unfoldable pub step_rows_in : Scene → ℕ → ℕ → StepOutput → List Row
+step_rows_in scene b j inputs =
+    flat_map (λ p. flat_map (port_rows_in scene b j p (slice_index_or inputs p [])) (below (rank_count (port_at scene b p).map))) (below (length (app_at scene b).ports))
 
 -- ---- all rows
 

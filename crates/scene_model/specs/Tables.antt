@@ -4,6 +4,7 @@ use Rattle.std.specs.Int.{w64}
 use Rattle.std.specs.List.{filter, flat_map, AllByRecursion}
 use Rattle.std.specs.declared.cmp.Ordering.{Ordering}
 use Rattle.std.specs.Ordering.{ordering_then, nat_cmp}
+use Rattle.music_base.specs.Items.{AreValues, IsMessageWithin, time_of}
 use Rattle.music_base.specs.Numbers.{below, floor_div, in_order}
 use Rattle.music_base.specs.declared.item.Item.{Item}
 use Rattle.music_base.specs.declared.item.Item.TheVariants.{Event, Value, Message}
@@ -50,17 +51,6 @@ abbrev pub IsEventWithin : PortDecl → ℕ → ℕ → Item → Type 0
 IsEventWithin port from to (Event e) = (from ≤ e.time) × (e.time < to) × (maps_index port.map e.global ≡ true)
 IsEventWithin port from to _ = ⊥
 
--- a message of such a step
-abbrev pub IsMessageWithin : ℕ → ℕ → Item → Type 0
-IsMessageWithin from to (Message m) = (from ≤ m.time) × (m.time < to)
-IsMessageWithin from to _ = ⊥
-
--- one value for each of the indices, in their order
-abbrev pub AreValues : List ℕ → List Item → Type 0
-AreValues [] [] = ⊤
-AreValues (g ∷ gs) (Value global value ∷ items) = (global ≡ g) × AreValues gs items
-AreValues _ _ = ⊥
-
 -- what a port may put out in such a step: nothing at an input, events of mapped indices or messages, each of a time
 -- within the step, or one value for each mapped index, ascending
 abbrev pub IsProperBlock : Direction → PortKind → PortDecl → ℕ → ℕ → List Item → Type 0
@@ -102,11 +92,6 @@ pub record Sent : Type 0 where
   pub item : Item
   pub app : ℕ
   pub port : ℕ
-
-abbrev pub time_of : Item → ℕ
-time_of (Event e) = e.time
-time_of (Message m) = m.time
-time_of (Value global value) = 0
 
 -- the global index of an item. A message counts as one of index 0
 abbrev pub global_of : Item → ℕ
