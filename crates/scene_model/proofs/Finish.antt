@@ -21,9 +21,12 @@ actor_unfinished scene limits s (Put c) can done = omega (arith, can.is_wanted, 
 
 -- ---- what is left to do
 
+pub total_below-agree : (f g : ℕ → ℕ) (n : ℕ) → ((j : ℕ) → j < n → f j ≡ g j) → total_below f n ≡ total_below g n
+total_below-agree f g zero same = refl
+total_below-agree f g (suc n) same = omega (arith, same n (omega arith), total_below-agree f g n (λ j lt. same j (omega arith)))
+
 pub total_below-same : (f g : ℕ → ℕ) (n i : ℕ) → n ≤ i → ((j : ℕ) → (j ≡ i → ⊥) → f j ≡ g j) → total_below f n ≡ total_below g n
-total_below-same f g zero i le others = refl
-total_below-same f g (suc n) i le others = omega (arith, others n (λ e. omega arith), total_below-same f g n i (omega arith) others)
+total_below-same f g n i le others = total_below-agree f g n (λ j lt. others j (λ e. omega arith))
 
 -- a sum in which one number is one more
 pub total_below-more : (f g : ℕ → ℕ) (n i : ℕ) → i < n → g i ≡ f i + 1 → ((j : ℕ) → (j ≡ i → ⊥) → f j ≡ g j) → total_below g n ≡ total_below f n + 1

@@ -39,3 +39,9 @@ pub mod Feeds
 pub mod Wanting
 pub mod ByClock
 pub mod TotalOrders
+pub mod ProperTables
+pub mod AgreeingLives
+pub mod FixedTables
+pub mod JoinedTables
+pub mod PassedBlocks
+pub mod StepRows

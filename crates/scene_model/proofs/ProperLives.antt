@@ -52,6 +52,11 @@ mapped_is : (ports : List PortDecl) (name : List ℕ) (index : ℕ) → is_mappe
 unfolding is_mapped
 mapped_is ports name index is = is
 
+-- a value for each of some indices
+pub are_values : (f : ℕ → ℤ) (gs : List ℕ) → AreValues gs (map (λ g. Value g (f g)) gs)
+are_values f [] = tt
+are_values f (g ∷ gs) = (refl, are_values f gs)
+
 -- ---- what a rule emits
 
 module _ (m : Moment) (lasts : ℕ) (ticks : 1 ≤ m.tick) where
@@ -124,10 +129,6 @@ module _ (m : Moment) (lasts : ℕ) (ticks : 1 ≤ m.tick) where
   emits rule was_over is = tt
 
   -- ---- what a turn puts out
-
-  pub are_values : (f : ℕ → ℤ) (gs : List ℕ) → AreValues gs (map (λ g. Value g (f g)) gs)
-  are_values f [] = tt
-  are_values f (g ∷ gs) = (refl, are_values f gs)
 
   module _ (rules : List Rule) (stand : AllByRecursion (λ rule. stands m.ports m.tick lasts rule ≡ true) rules) (state : List Bool)
       (differ : names_differ m.ports ≡ true) (p : ℕ) (lt : p < length m.ports) where

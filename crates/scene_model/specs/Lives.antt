@@ -64,7 +64,8 @@ after_turns scene (suc n) = again scene (after_turns scene n)
 abbrev pub all_steps : Scene → ℕ
 all_steps scene = total_below (steps scene) (length scene.apps)
 
--- the history of a scene: a turn for each step of it, so that what one step puts out can reach each other one. No law says
--- that a further turn would change nothing; in a scene with a cycle of waits that is not covered it may
+-- the history of a scene: a turn for each step of it, so that what one step puts out can reach each other one. Where some lawful
+-- order of acts finishes every application, and so in each accepted scene, a further turn changes nothing, and no other table is
+-- left as it is; in a scene with a cycle of waits that is not covered a further turn may change it
 unfoldable pub history : Scene → Table
 history scene = after_turns scene (all_steps scene)

@@ -1,25 +1,55 @@
-//! When blocks are wanted.
+//! How late things may come, and when blocks are wanted.
 ghost use Rattle.std.specs.Prelude.{◌≡◌, ◌<◌, ◌≤◌, ◌^◌, length, pos, ◌-ℤ◌};
 ghost use Rattle.std.specs.Int.RustNames.{unsigned_abs};
-ghost use Rattle.std.specs.Option.{unwrap_or};
-ghost use Rattle.scene_model.specs.Clocks.{allowance, allowance_by, wanted_blocks};
+ghost use Rattle.scene_model.specs.Clocks.{allowance, allowance_by, delay, latency, wanted_blocks};
 ghost use Rattle.scene_model.specs.Faults.{IsFaultless};
 
 use crate::{AppDecl, PortDecl, PortKind, Scene};
 use music_base::{LinkId, Nanos, wanted};
 
-/// The allowance of a connection to an input, between applications of these ticks that start together. A latency of the
-/// connection's own counts in place of the input's latency or delay.
-fn allowance_by(input: &PortDecl, own: Option<Nanos>, send_tick: Nanos, receive_tick: Nanos) -> i128
-    ensures value { result ≡ allowance_by input.now.kind input.now.interpolate (unwrap_or own input.now.latency) (unwrap_or own input.now.delay) send_tick receive_tick }
+/// The latency of a connection, for events and messages, in ns: the one that it states, or else that of its input.
+///
+/// The scene has no fault, and the connection is one of its own.
+pub fn latency_of(scene: &Scene, link: LinkId) -> Nanos
+    requires scene { IsFaultless scene.now }
+    requires link { link < length scene.now.links }
+    ensures value { result ≡ latency scene.now link }
+    ensures within { result ≤ 10 ^ 15 }
+{
+    let own = scene.link(link).latency;
+    own.unwrap_or(scene.input_of(link).latency)
+}
+
+/// The delay of a connection, for continuous values, in ns: the latency that it states, or else the delay of its input.
+///
+/// The scene has no fault, and the connection is one of its own.
+pub fn delay_of(scene: &Scene, link: LinkId) -> Nanos
+    requires scene { IsFaultless scene.now }
+    requires link { link < length scene.now.links }
+    ensures value { result ≡ delay scene.now link }
+    ensures within { result ≤ 10 ^ 15 }
+{
+    let own = scene.link(link).latency;
+    own.unwrap_or(scene.input_of(link).delay)
+}
+
+/// The allowance of a connection of this latency or this delay to an input, between applications of these ticks that start
+/// together.
+fn allowance_by(
+    input: &PortDecl,
+    latency: Nanos,
+    delay: Nanos,
+    send_tick: Nanos,
+    receive_tick: Nanos,
+) -> i128
+    ensures value { result ≡ allowance_by input.now.kind input.now.interpolate latency delay send_tick receive_tick }
     ensures near { unsigned_abs result ≤ 2 ^ 66 }
 {
     match input.kind {
-        PortKind::Events | PortKind::Messages => i128::from(own.unwrap_or(input.latency).0),
+        PortKind::Events | PortKind::Messages => i128::from(latency.0),
         PortKind::Values => {
             let before = if input.interpolate { send_tick.0 } else { 1 };
-            i128::from(own.unwrap_or(input.delay).0) + i128::from(receive_tick.0)
-                - i128::from(before)
+            i128::from(delay.0) + i128::from(receive_tick.0) - i128::from(before)
         }
     }
 }
@@ -48,8 +78,14 @@ pub fn allowance_of(scene: &Scene, link: LinkId) -> i128
     ensures near { unsigned_abs result ≤ 10 ^ 16 }
 {
     let (sender, receiver) = (scene.sender_of(link), scene.receiver_of(link));
-    let own = scene.link(link).latency;
-    let together = allowance_by(scene.input_of(link), own, sender.tick, receiver.tick);
+    let (latency, delay) = (latency_of(scene, link), delay_of(scene, link));
+    let together = allowance_by(
+        scene.input_of(link),
+        latency,
+        delay,
+        sender.tick,
+        receiver.tick,
+    );
     later_start(sender, receiver) + together
 }
 

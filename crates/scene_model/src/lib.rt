@@ -19,6 +19,7 @@ mod port;
 mod row;
 mod rule;
 mod scene;
+mod table_laws;
 mod time_laws;
 mod together_laws;
 mod wait;
@@ -30,7 +31,7 @@ pub use accepted_laws::{
     scenes_are_accepted_or_refused,
 };
 pub use act::Act;
-pub use clocks::{allowance_of, wanted_blocks};
+pub use clocks::{allowance_of, delay_of, latency_of, wanted_blocks};
 pub use cover_laws::passed_waits_are_covered;
 pub use fault_laws::{faultless_by_place, worked_faults_show, worked_scenes_have_no_fault};
 pub use laws::{worked_events_hold, worked_log_holds, worked_turns_hold, worked_values_hold};
@@ -48,6 +49,11 @@ pub use port::{Direction, PortDecl, PortKind};
 pub use row::{Row, RowItem};
 pub use rule::Rule;
 pub use scene::{AppDecl, Link, Scene};
+pub use table_laws::{
+    accepted_scenes_have_one_history, dues_are_by_clock, one_table_is_fixed,
+    stable_sorts_put_in_order, step_rows_are_of_what_is_read, steps_want_what_they_read,
+    what_passed_begins_a_table, what_passed_is_the_history,
+};
 pub use time_laws::times_are_periods_apart;
 pub use together_laws::{connections_that_state_nothing, scenes_that_run_together};
 pub use wait::{Wait, WaitKind};
@@ -55,6 +61,6 @@ pub use worked_orders::{
     worked_cycles_hold, worked_limits_hold, worked_order_holds, worked_scenes_are_accepted,
 };
 pub use worked_times::{
-    worked_connections_hold, worked_late_values_hold, worked_latencies_hold,
+    worked_connections_hold, worked_dues_hold, worked_late_values_hold, worked_latencies_hold,
     worked_starts_and_stops_hold, worked_starts_in_cycles_hold,
 };

@@ -1,9 +1,12 @@
 //! Laws over scenes that can be followed by hand, whose applications start and stop at times of their own, or whose connections
 //! state a latency or how many blocks they keep.
-ghost use Rattle.std.specs.Prelude.{◌≡◌, [], ◌∷◌, Some, codes, negsuc, pos};
-ghost use Rattle.scene_model.specs.Clocks.{steps};
+ghost use Rattle.std.specs.Prelude.{◌≡◌, [], ◌∷◌, Some, codes, false, negsuc, pos, true};
+ghost use Rattle.music_base.specs.Clocks.{due_step_from};
+ghost use Rattle.scene_model.specs.Clocks.{clock_at, delay, first_at, latency, steps};
 ghost use Rattle.scene_model.specs.Cover.{IsReportable};
-ghost use Rattle.scene_model.specs.Logs.{log_of};
+ghost use Rattle.scene_model.specs.Due.{is_due_from, is_step_from};
+ghost use Rattle.scene_model.specs.Logs.{log_of, step_rows_in};
+ghost use Rattle.scene_model.specs.Turns.{event};
 ghost use Rattle.scene_model.specs.Waits.{AreLimits, IsAccepted, block_wait, stated, stated_waits};
 ghost use Rattle.scene_model.specs.WorkedScenes.{log};
 ghost use Rattle.scene_model.specs.WorkedTimes.{
@@ -31,6 +34,7 @@ ghost use Rattle.scene_model.specs.WorkedTimes.{
   together_and_late,
 };
 ghost use Rattle.scene_model.specs.WorkedWaits.{for_each_other};
+ghost use Rattle.scene_model.specs.declared.row.RowItem.TheVariants.{Event as EventRow};
 
 /// The logs of small scenes in which events go from one application to another, and one of the two starts late, or stops
 /// before the other.
@@ -124,4 +128,21 @@ pub fn worked_connections_hold()
     ensures keeps_two_limits { AreLimits keeps_two (2 ∷ []) }
     ensures states_two { stated keeps_two 0 ≡ Some 2 }
     ensures states_more_than_its_ends { stated keeps_more_than_its_ends 0 ≡ Some 7 }
+{}
+
+/// What lies before the receiver's start is past from step 0 on, and what its latency puts at the start is due in step 0
+/// alone. A row of a step is made of what its port read.
+pub fn worked_dues_hold()
+    ensures before { is_step_from 0 (due_step_from 999_999 0 1_000_000 1_000_000) ≡ false }
+    ensures at { is_step_from 0 (due_step_from 500_000 500_000 1_000_000 1_000_000) ≡ true }
+    ensures after { is_step_from 1 (due_step_from 500_000 500_000 1_000_000 1_000_000) ≡ false }
+    ensures dropped { is_due_from late_sink 0 0 (event 3 500_000) ≡ false }
+    ensures first { is_due_from late_sink 0 0 (event 3 1_500_000) ≡ true }
+    ensures past { is_due_from late_sink 0 1 (event 3 1_500_000) ≡ false }
+    ensures own_latency { latency late_in_place_of_the_input 0 ≡ 1 }
+    ensures own_delay { delay delayed_by_connection 0 ≡ 1_000_000 }
+    ensures first_sample { first_at late_ramp 0 ≡ 1_000_000 }
+    ensures first_clock { clock_at late_reader 0 0 ≡ 1_000_000 }
+    ensures row { step_rows_in late_sink 1 0 ((event 3 1_500_000 ∷ []) ∷ []) ≡
+        record { clock = 1_000_000; app = 1; port = 0; rank = 0; item = EventRow 3 3 1_500_000 } ∷ [] }
 {}

@@ -1,12 +1,12 @@
 use Rattle.std.proofs.Common.{refl, rules, arith, FitsSigned, ◌+ℤ◌}
 use Rattle.std.proofs.lemmas.Int.{ints, to_z-of_z}
 use mir.Syntax.{w128}
-use Rattle.scene_model.specs.Clocks.{allowance, delay, latency, start, tick}
+use Rattle.scene_model.specs.Clocks.{allowance, start, tick}
 use Rattle.scene_model.proofs.Bounds.{IsAllowance, allowance_at, timed_at}
 use Rattle.scene_model.proofs.clocks.allowance_of.Goals as goal
 
 pub returns-clause-value : goal.returns-clause-value
-unfolding allowance delay latency start tick
+unfolding allowance start tick
 returns-clause-value c =
     let later : FitsSigned w128 c.later_start.result = search rules in
     let together : FitsSigned w128 c.allowance_by-together.result = search rules in
@@ -20,7 +20,8 @@ returns-clause-value c =
       c.sender_of-sender.ensures,
       c.receiver_of-receiver.ensures,
       c.input_of.ensures,
-      c.link-own.ensures,
+      c.latency_of-latency.ensures.value,
+      c.delay_of-delay.ensures.value,
     ) refl
 
 pub returns-clause-near : goal.returns-clause-near
