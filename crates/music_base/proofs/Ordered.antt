@@ -2,8 +2,8 @@
 use Rattle.std.proofs.Common.{◌≡◌, ◌⊎◌, ℕ, zero, suc, ◌+◌, ◌*◌, ◌<◌, ◌≤◌, Bool, true, false, nat_eq, nat_lt, List, [], ◌∷◌, ◌++◌, map, refl, sym, ap, subst, inl, inr, zero-add, arith}
 use Rattle.std.specs.List.{filter, flat_map, range_with_len, AllByRecursion}
 use Rattle.std.specs.declared.cmp.Ordering.{Ordering}
-use Rattle.std.specs.Ordering.{is_gt}
-use Rattle.std.proofs.lemmas.Bool.{lt-ltb, le-ltb, eq-eqb, ne_eqb, cases_order, cases_Bool}
+use Rattle.std.specs.Ordering.{is_gt, nat_cmp, ordering_then}
+use Rattle.std.proofs.lemmas.Bool.{lt-ltb, le-ltb, eq-eqb, ne_eqb, cases_lt, cases_order, cases_Bool}
 use Rattle.std.proofs.lemmas.List.{append-nil}
 use Rattle.std.proofs.lemmas.List.Concat.{flat_map-append}
 use Rattle.std.proofs.Math.Nat.{mul-le-mul_right}
@@ -41,6 +41,16 @@ progression-ascends first every a (suc n) = (
 )
 
 -- ---- putting in order
+
+-- what comes no later by number and is not after by the rest is not after
+pub not_after : (a b : ℕ) (rest : Ordering) → a ≤ b → is_gt rest ≡ false → is_gt (ordering_then (nat_cmp a b) rest) ≡ false
+not_after a b rest le tie = elim (cases_lt a b) [
+  | inl lt ↦ let t : nat_lt a b ≡ true = lt-ltb a b lt in rw t refl
+  | inr ge ↦
+      let f : nat_lt a b ≡ false = le-ltb a b ge in
+      let e : nat_eq a b ≡ true = eq-eqb a b (omega arith) in
+      rw (f, e) tie
+]
 
 pub put_in_order-front : {X : Type 0} (cmp : X → X → Ordering) (x : X) (xs : List X) → AllByRecursion (λ y. is_gt (cmp x y) ≡ false) xs → put_in_order cmp x xs ≡ x ∷ xs
 put_in_order-front cmp x [] h = refl

@@ -4,13 +4,17 @@ use Rattle.std.specs.declared.cmp.Ordering.{Ordering}
 use Rattle.std.specs.Ordering.{is_lt, is_gt, ordering_reverse}
 use Rattle.std.specs.Cmp.{IsTotalOrder, IsStrictWeakOrder}
 use Rattle.std.specs.List.{AllByRecursion, filter}
-use Rattle.std.specs.List.Sorted.{IsSorted, IsSortedBy, IsStable, ties}
+use Rattle.std.specs.Fn.{Called, ComparesAs}
+use Rattle.std.specs.List.Sorted.{IsSorted, IsSortedBy, IsStable, IsStableBy, ties}
+use Rattle.std.proofs.lemmas.Fn.{always_returns_same}
+use denote.Bor.{Bor}
+use denote.Param.Members.{Mut}
 use Rattle.std.proofs.lemmas.Bool.{cases_Bool}
 use Rattle.std.proofs.lemmas.List.Sorted.{sorted_far, ranks_by}
 use Rattle.std.proofs.lemmas.List.Elements.{recursion_from_All}
 use Rattle.music_base.specs.Numbers.{put_in_order, in_order}
 use Rattle.music_base.proofs.Lists.{All-in_order, All-put_in_order, All-weaker}
-use Rattle.music_base.proofs.Ordered.{Pairwise, put_in_order-front}
+use Rattle.music_base.proofs.Ordered.{Pairwise, Pairwise-filter, put_in_order-front}
 
 -- no element is less than one before it
 abbrev pub Ascends : {X : Type 0} → (X → X → Bool) → List X → Type 0
@@ -51,7 +55,7 @@ module _ {X : Type 0} (lt : X → X → Bool) (o : IsStrictWeakOrder lt) where
   keep : (x : X) (xs : List X) → filter (ties lt x) (x ∷ xs) ≡ x ∷ filter (ties lt x) xs
   keep x xs = rw (ties_from x x (irreflexive x) (irreflexive x)) refl
 
-  same_ascending : (ys zs : List X) → Ascends lt ys → Ascends lt zs → ((x : X) → filter (ties lt x) ys ≡ filter (ties lt x) zs) → ys ≡ zs
+  pub same_ascending : (ys zs : List X) → Ascends lt ys → Ascends lt zs → ((x : X) → filter (ties lt x) ys ≡ filter (ties lt x) zs) → ys ≡ zs
   same_ascending [] [] up_y up_z same = refl
   same_ascending (y ∷ ys) [] up_y up_z same = let e : y ∷ filter (ties lt y) ys ≡ [] = sym (keep y ys) ∙ same y in cc
   same_ascending [] (z ∷ zs) up_y up_z same = let e : [] ≡ z ∷ filter (ties lt z) zs = same z ∙ keep z zs in cc
@@ -86,6 +90,13 @@ module _ {X : Type 0} (lt : X → X → Bool) (o : IsStrictWeakOrder lt) where
     recursion_from_All (λ y. lt y x ≡ false) xs (λ k d l. sorted_far lt o (x ∷ xs) up 0 (suc k) d (omega arith) (omega arith)),
     ascends_from_sorted xs (λ k d low l. let e : suc k + 1 ≡ suc (k + 1) = omega arith in rw e at (up (suc k) d (omega arith) (omega arith))),
   )
+
+filter-swap : {X : Type 0} (p q : X → Bool) (xs : List X) → filter p (filter q xs) ≡ filter q (filter p xs)
+filter-swap p q [] = refl
+filter-swap p q (x ∷ xs) = elim (cases_Bool (q x)) [
+  | inl t ↦ elim (cases_Bool (p x)) [ inl u ↦ rw (t, u) (rw t (ap (λ ys. x ∷ ys) (filter-swap p q xs))) | inr u ↦ rw (t, u) (filter-swap p q xs) ]
+  | inr t ↦ elim (cases_Bool (p x)) [ inl u ↦ rw (t, u) (rw t (filter-swap p q xs)) | inr u ↦ rw (t, u) (filter-swap p q xs) ]
+]
 
 -- ---- putting in order is a stable sort
 
@@ -142,6 +153,29 @@ module _ {X : Type 0} (cmp : X → X → Ordering) (o : IsTotalOrder cmp) where
   pub sorted_is_in_order : (xs ys : List X) → IsSorted cmp ys → IsStable cmp xs ys → ys ≡ in_order cmp xs
   sorted_is_in_order xs ys up stable =
       same_ascending less weak ys (in_order cmp xs) (ascends_from_sorted less weak ys up) (in_order_ascends xs) (λ v. stable v ∙ sym (in_order_stable v xs))
+
+  -- ---- what makes the same order
+
+  -- lists in which what ties stands in the same order
+  pub in_order-same_ties : (xs ys : List X) → ((v : X) → filter (ties less v) xs ≡ filter (ties less v) ys) → in_order cmp xs ≡ in_order cmp ys
+  in_order-same_ties xs ys same =
+      same_ascending less weak (in_order cmp xs) (in_order cmp ys) (in_order_ascends xs) (in_order_ascends ys) (λ v. in_order_stable v xs ∙ same v ∙ sym (in_order_stable v ys))
+
+  -- what is left of a list in order is in order
+  pub filter-in_order : (p : X → Bool) (xs : List X) → filter p (in_order cmp xs) ≡ in_order cmp (filter p xs)
+  filter-in_order p xs =
+      same_ascending less weak (filter p (in_order cmp xs)) (in_order cmp (filter p xs)) (Pairwise-filter (λ x y. less y x ≡ false) p (in_order cmp xs) (in_order_ascends xs)) (in_order_ascends (filter p xs))
+      (λ v. filter-swap (ties less v) p (in_order cmp xs) ∙ ap (filter p) (in_order_stable v xs) ∙ filter-swap p (ties less v) xs ∙ sym (in_order_stable v (filter p xs)))
+
+  -- what `sort_by` leaves whose closure answers by the order
+  pub sorted_by : {F : Type 0} (g : Mut F (Bor X × (Bor X × Unit {0})) Ordering) (f : F) (xs ys : List X)
+      → ((lt : X → X → Bool) → IsStrictWeakOrder lt → ComparesAs g lt f → IsSortedBy lt ys)
+      → ((lt : X → X → Bool) → IsStrictWeakOrder lt → ComparesAs g lt f → IsStableBy lt xs ys)
+      → ((a : Bor X × (Bor X × Unit {0})) (r : Ordering) (f' : F) → Called g f a r f' → (r ≡ cmp a.0.now a.1.0.now) × (f' ≡ f))
+      → ys ≡ in_order cmp xs
+  sorted_by g f xs ys sorted stable calls =
+      let compares : ComparesAs g less f = always_returns_same g (λ a r. is_lt r ≡ less a.0.now a.1.0.now) f (λ a r f' k. (ap is_lt (calls a r f' k).0, (calls a r f' k).1)) in
+      sorted_is_in_order xs ys (sorted less weak compares) (stable less weak compares)
 
 -- ---- parts
 

@@ -1,9 +1,8 @@
 -- The rows of the first form's history.
-use Rattle.std.proofs.Common.{◌≡◌, ℕ, ◌+◌, ◌-◌, ◌*◌, ◌<◌, ◌≤◌, Bool, true, false, ◌&&◌, nat_eq, nat_lt, List, [], ◌∷◌, ◌++◌, length, map, refl, sym, ap, ◌∙◌, inl, inr, arith, Some}
+use Rattle.std.proofs.Common.{◌≡◌, ℕ, ◌+◌, ◌-◌, ◌*◌, ◌<◌, ◌≤◌, Bool, true, false, ◌&&◌, nat_eq, nat_lt, List, [], ◌∷◌, ◌++◌, length, map, refl, sym, ap, ◌∙◌, arith, Some}
 use Rattle.std.specs.List.{filter, flat_map, range_with_len}
-use Rattle.std.specs.Ordering.{is_gt, ordering_then, nat_cmp}
-use Rattle.std.specs.declared.cmp.Ordering.{Ordering}
-use Rattle.std.proofs.lemmas.Bool.{lt-ltb, le-ltb, eq-eqb, eqb-true, cases_lt, and_parts}
+use Rattle.std.specs.Ordering.{is_gt}
+use Rattle.std.proofs.lemmas.Bool.{le-ltb, eqb-true, and_parts}
 use Rattle.std.proofs.lemmas.List.{append-nil}
 use Rattle.std.proofs.lemmas.List.Elements.{filter_agree}
 use Rattle.std.proofs.lemmas.List.Folds.{flat_map-map}
@@ -13,7 +12,7 @@ use Rattle.music_base.specs.Clocks.{due_step, due_step_from}
 use Rattle.music_base.specs.Numbers.{below, in_order}
 use Rattle.music_base.specs.declared.item.Item.{Item}
 use Rattle.music_base.proofs.Lists.{map-map, map-filter_agree, map-flat_map, filter-map, filter-filter, flat_map-none, flat_map-map_filter, flat_map-filter_single, flat_map-agree_within}
-use Rattle.music_base.proofs.Ordered.{Pairwise, Pairwise-weaker, Pairwise-filter, Pairwise-map, progression-ascends, in_order-same, pieces}
+use Rattle.music_base.proofs.Ordered.{Pairwise, Pairwise-weaker, Pairwise-filter, Pairwise-map, progression-ascends, in_order-same, not_after, pieces}
 use Rattle.index_maps.specs.Maps.{maps_index}
 use Rattle.plain_run.specs.declared.form.FirstForm.{FirstForm}
 use Rattle.scene_model.specs.Scenes.{sender, receiver, input_of, links_to}
@@ -32,16 +31,6 @@ use Rattle.scene_model.proofs.Times.{times_between-steps, times_between-from_zer
 use Rattle.plain_run.proofs.History.{emission, source_steps, sink_steps, steps-source, steps-sink, table_of, history-is}
 
 -- ---- order
-
--- what comes no later by number and is not after by the rest is not after
-not_after : (a b : ℕ) (rest : Ordering) → a ≤ b → is_gt rest ≡ false → is_gt (ordering_then (nat_cmp a b) rest) ≡ false
-not_after a b rest le tie = elim (cases_lt a b) [
-  | inl lt ↦ let t : nat_lt a b ≡ true = lt-ltb a b lt in rw t refl
-  | inr ge ↦
-      let f : nat_lt a b ≡ false = le-ltb a b ge in
-      let e : nat_eq a b ≡ true = eq-eqb a b (omega arith) in
-      rw (f, e) tie
-]
 
 events_ascend : (form : FirstForm) (p : ℕ → Bool) → Pairwise (λ x y. x ≤ y) (filter p (event_times form))
 events_ascend form p = Pairwise-filter (λ x y. x ≤ y) p (event_times form) (progression-ascends form.first form.every 0 (event_count form))
