@@ -1,6 +1,6 @@
 -- What a step reads of a table depends only on the blocks that it wants.
 use Rattle.std.proofs.Common.{ℕ, suc, ◌+◌, ◌-◌, ◌*◌, ◌/◌, ◌%◌, ◌<◌, ◌≤◌, ◌≡◌, ◌⊎◌, inl, inr, min, refl, sym, ◌∙◌, ap, arith, List, [], ◌∷◌, length, map, Bool, true, false, cond, Option, Some, None, ℤ, pos, ◌+ℤ◌, ◌-ℤ◌}
-use Rattle.std.specs.Prelude.{slice_index_or, nat_lt, ◌&&◌, ◌==◌}
+use Rattle.std.specs.Prelude.{slice_index_or, nat_lt, ◌&&◌, ◌==◌, ◌↔◌}
 use Rattle.std.specs.List.{AllByRecursion, filter}
 use Rattle.std.proofs.lemmas.Bool.{cases_lt, cases_eq, and_parts, eqb-true, ltb-false}
 use Rattle.std.proofs.lemmas.Int.{ints}
@@ -15,13 +15,12 @@ use Rattle.scene_model.specs.declared.port.PortKind.{PortKind}
 use Rattle.scene_model.specs.declared.port.PortKind.TheVariants.{Events, Values, Messages}
 use Rattle.music_base.specs.Numbers.{below, in_order}
 use Rattle.music_base.proofs.Lists.{All-below, All-passing, All-weaker, filter-none, flat_map-agree_each}
-use Rattle.index_maps.specs.Maps.{maps_index}
 use Rattle.music_base.specs.Clocks.{due_step_from}
-use Rattle.scene_model.specs.Clocks.{start, tick, steps, clock, latency, delay, due, allowance, allowance_by, later_start, wants, wanted, clock_at, first_at}
+use Rattle.scene_model.specs.Clocks.{start, tick, steps, clock, latency, delay, due, allowance, allowance_by, later_start, run_time, wants, wanted, clock_at, first_at, last_sample}
 use Rattle.scene_model.specs.Scenes.{sender, receiver, link_at, input_of, port_at, links_to}
 use Rattle.scene_model.specs.Tables.{block_on, steps_of, Table, StepOutput, block, is_step, arrives, Sent, sent_cmp, coming, arrivals, value_in, sample, reading, value_on, value_over, value}
 use Rattle.scene_model.specs.WellFormed.{IsWellFormed}
-use Rattle.scene_model.proofs.Wanted.{test_from_lt, tick_some, wanted_below, wanted_all}
+use Rattle.scene_model.proofs.Wanted.{lt_from_test, test_from_lt, tick_some, wanted_below, wanted_all}
 
 -- an event or a message is not before this time
 abbrev pub IsFrom : ℕ → Item → Type 0
@@ -55,48 +54,55 @@ step_is j (Some step) h = ap (λ n. Some n) (eqb-true step j h)
 -- a step wants each block that has something which is due in it
 pub due_wants : (scene : Scene) → IsWellFormed scene → (c j k time : ℕ) → IsLate scene c → clock scene (sender scene c) k ≤ time → due scene c time ≡ Some j → wants scene c j k ≡ true
 unfolding due
-due_wants scene timed c j k time e from now =
-    let since = due_in time (latency scene c) (start scene (receiver scene c)) (tick scene (receiver scene c)) j now in
-    let l : time + latency scene c - start scene (receiver scene c) < j * tick scene (receiver scene c) + tick scene (receiver scene c) = rw since.1 at (lt-div-mul-add {a = time + latency scene c - start scene (receiver scene c)} (tick_some scene timed (receiver scene c))) in
-    rw e (test_from_lt (pos (k * tick scene (sender scene c)) +ℤ (later_start scene c +ℤ pos (latency scene c))) (pos (suc j * tick scene (receiver scene c))) (omega (arith, ints, since.0)))
+due_wants scene formed c j k time late from now =
+    let begins : ℕ = start scene (receiver scene c) in
+    let ticks : ℕ = tick scene (receiver scene c) in
+    let since = due_in time (latency scene c) begins ticks j now in
+    let before : time + latency scene c - begins < j * ticks + ticks = rw since.1 at (lt-div-mul-add {a = time + latency scene c - begins} (tick_some scene formed (receiver scene c))) in
+    rw late (test_from_lt (pos (run_time scene (sender scene c) k) +ℤ (later_start scene c +ℤ pos (latency scene c))) (pos (run_time scene (receiver scene c) (suc j))) (omega (arith, ints, since.0)))
 
--- so nothing arrives of a block that the step does not want
+-- so nothing of a block that the step does not want is due in it
+not_due : (scene : Scene) → IsWellFormed scene → (c j k time : ℕ) → IsLate scene c → wants scene c j k ≡ false → clock scene (sender scene c) k ≤ time → is_step j (due scene c time) ≡ false
+not_due scene formed c j k time late unwanted from = go (is_step j (due scene c time)) refl
+  where
+    go : (b : Bool) → is_step j (due scene c time) ≡ b → is_step j (due scene c time) ≡ false
+    go true now = let w : wants scene c j k ≡ true = due_wants scene formed c j k time late from (step_is j (due scene c time) now) in cc
+    go false later = later
+
+-- and nothing of it arrives
 pub not_arriving : (scene : Scene) → IsWellFormed scene → (c j k : ℕ) → IsLate scene c → wants scene c j k ≡ false → (item : Item) → IsFrom (clock scene (sender scene c) k) item → arrives scene c j item ≡ false
-not_arriving scene timed c j k late unwanted (Event e) from = go (is_step j (due scene c e.time)) refl
-  where
-    go : (b : Bool) → is_step j (due scene c e.time) ≡ b → (is_step j (due scene c e.time) && maps_index (input_of scene c).map e.global) ≡ false
-    go true now = let w : wants scene c j k ≡ true = due_wants scene timed c j k e.time late from (step_is j (due scene c e.time) now) in cc
-    go false not_now = rw not_now refl
-not_arriving scene timed c j k late unwanted (Message m) from = go (is_step j (due scene c m.time)) refl
-  where
-    go : (b : Bool) → is_step j (due scene c m.time) ≡ b → is_step j (due scene c m.time) ≡ false
-    go true now = let w : wants scene c j k ≡ true = due_wants scene timed c j k m.time late from (step_is j (due scene c m.time) now) in cc
-    go false not_now = not_now
-not_arriving scene timed c j k late unwanted (Value global value) from = refl
+not_arriving scene formed c j k late unwanted (Event e) from = rw (not_due scene formed c j k e.time late unwanted from) refl
+not_arriving scene formed c j k late unwanted (Message m) from = not_due scene formed c j k m.time late unwanted from
+not_arriving scene formed c j k late unwanted (Value global value) from = refl
 
 -- two tables have the same first n blocks on a connection
 abbrev pub AgreeBelow : Scene → Table → Table → ℕ → ℕ → Type 0
-AgreeBelow scene G H c n = (k : ℕ) → k < n → block_on scene G c k ≡ block_on scene H c k
+AgreeBelow scene one other c n = (k : ℕ) → k < n → block_on scene one c k ≡ block_on scene other c k
 
-module _ (scene : Scene) (timed : IsWellFormed scene) (G H : Table) (from_G : IsTimely scene G) (from_H : IsTimely scene H) where
-  coming_same : (c j : ℕ) → IsLate scene c → AgreeBelow scene G H c (wanted scene c j) → coming scene G j c ≡ coming scene H j c
-  coming_same c j late agree = flat_map-agree_each (sent G) (sent H) (below (steps scene (sender scene c))) (All-below (λ k. sent G k ≡ sent H k) (steps scene (sender scene c)) each)
+module _ (scene : Scene) (formed : IsWellFormed scene) (one other : Table) (from_one : IsTimely scene one) (from_other : IsTimely scene other) where
+  -- where they agree on what step j wants, the same comes
+  coming_same : (c j : ℕ) → IsLate scene c → AgreeBelow scene one other c (wanted scene c j) → coming scene one j c ≡ coming scene other j c
+  coming_same c j late agree =
+      flat_map-agree_each (λ k. sent (block_on scene one c k)) (λ k. sent (block_on scene other c k)) (below (steps scene (sender scene c)))
+      (All-below (λ k. sent (block_on scene one c k) ≡ sent (block_on scene other c k)) (steps scene (sender scene c)) each)
     where
-      sent : Table → ℕ → List Sent
-      sent T k = map (λ item. record { item = item; app = sender scene c; port = (link_at scene c).from_port }) (filter (arrives scene c j) (block_on scene T c k))
+      sent : List Item → List Sent
+      sent items = map (λ item. record { item = item; app = sender scene c; port = (link_at scene c).from_port }) (filter (arrives scene c j) items)
 
-      none : (T : Table) → IsTimely scene T → (k : ℕ) → wants scene c j k ≡ false → filter (arrives scene c j) (block_on scene T c k) ≡ []
-      none T from k unwanted = filter-none (arrives scene c j) (block_on scene T c k)
-          (All-weaker (IsFrom (clock scene (sender scene c) k)) (λ item. arrives scene c j item ≡ false) (not_arriving scene timed c j k late unwanted) (block_on scene T c k) (from (sender scene c) k (link_at scene c).from_port))
+      none : (table : Table) → IsTimely scene table → (k : ℕ) → wants scene c j k ≡ false → filter (arrives scene c j) (block_on scene table c k) ≡ []
+      none table from k unwanted =
+          filter-none (arrives scene c j) (block_on scene table c k)
+          (All-weaker (IsFrom (clock scene (sender scene c) k)) (λ item. arrives scene c j item ≡ false) (not_arriving scene formed c j k late unwanted) (block_on scene table c k)
+          (from (sender scene c) k (link_at scene c).from_port))
 
-      each : (k : ℕ) → k < steps scene (sender scene c) → sent G k ≡ sent H k
+      each : (k : ℕ) → k < steps scene (sender scene c) → sent (block_on scene one c k) ≡ sent (block_on scene other c k)
       each k small = go (wants scene c j k) refl
         where
-          go : (b : Bool) → wants scene c j k ≡ b → sent G k ≡ sent H k
-          go true e = ap (λ (o : List Item). map (λ item. record { item = item; app = sender scene c; port = (link_at scene c).from_port }) (filter (arrives scene c j) o)) (agree k (wanted_below scene c j k small e))
-          go false e = rw (none G from_G k e, none H from_H k e) refl
+          go : (b : Bool) → wants scene c j k ≡ b → sent (block_on scene one c k) ≡ sent (block_on scene other c k)
+          go true e = ap sent (agree k (wanted_below scene c j k small e))
+          go false e = rw (none one from_one k e, none other from_other k e) refl
 
--- the links to an input
+-- a connection to port p of application b
 abbrev pub IsLinkTo : Scene → ℕ → ℕ → ℕ → Type 0
 IsLinkTo scene b p c = (c < length scene.links) × (receiver scene c ≡ b) × ((link_at scene c).to_port ≡ p)
 
@@ -117,66 +123,120 @@ late_by Values interpolated latency delay send receive ne = absurd (ne refl)
 -- a connection that brings no values brings events or messages
 pub is_late : (scene : Scene) (c : ℕ) → ((input_of scene c).kind ≡ Values → ⊥) → IsLate scene c
 unfolding allowance
-is_late scene c ne = ap (λ z. later_start scene c +ℤ z) (late_by (input_of scene c).kind (input_of scene c).interpolate (latency scene c) (delay scene c) (tick scene (sender scene c)) (tick scene (receiver scene c)) ne)
+is_late scene c ne =
+    ap (λ z. later_start scene c +ℤ z)
+    (late_by (input_of scene c).kind (input_of scene c).interpolate (latency scene c) (delay scene c) (tick scene (sender scene c)) (tick scene (receiver scene c)) ne)
 
 -- the input of a connection to port p of b
 pub input_is : (scene : Scene) (b p c : ℕ) → IsLinkTo scene b p c → input_of scene c ≡ port_at scene b p
 input_is scene b p c h = ap (λ x. port_at scene x (link_at scene c).to_port) h.1 ∙ ap (λ q. port_at scene b q) h.2
 
 -- two tables have, and agree on, what step j of b wants
-pub record SameFeed (scene : Scene) (G H : Table) (b j : ℕ) : Type 0 where
-  pub agree : (c : ℕ) → c < length scene.links → receiver scene c ≡ b → AgreeBelow scene G H c (wanted scene c j)
-  pub has_left : (c : ℕ) → c < length scene.links → receiver scene c ≡ b → wanted scene c j ≤ length (steps_of G (sender scene c))
-  pub has_right : (c : ℕ) → c < length scene.links → receiver scene c ≡ b → wanted scene c j ≤ length (steps_of H (sender scene c))
+pub record SameFeed (scene : Scene) (one other : Table) (b j : ℕ) : Type 0 where
+  pub agree : (c : ℕ) → c < length scene.links → receiver scene c ≡ b → AgreeBelow scene one other c (wanted scene c j)
+  pub has_left : (c : ℕ) → c < length scene.links → receiver scene c ≡ b → wanted scene c j ≤ length (steps_of one (sender scene c))
+  pub has_right : (c : ℕ) → c < length scene.links → receiver scene c ≡ b → wanted scene c j ≤ length (steps_of other (sender scene c))
 
 -- no application has more steps in the table than in the scene
-pub record IsShort (scene : Scene) (G : Table) : Type 0 where
-  pub rows : (a : ℕ) → length (steps_of G a) ≤ steps scene a
+pub record IsShort (scene : Scene) (table : Table) : Type 0 where
+  pub rows : (a : ℕ) → length (steps_of table a) ≤ steps scene a
 
 -- so the same arrives
-pub arrivals_same : (scene : Scene) → IsWellFormed scene → (G H : Table) → IsTimely scene G → IsTimely scene H → (b p j : ℕ) → SameFeed scene G H b j → ((port_at scene b p).kind ≡ Values → ⊥) → arrivals scene G b p j ≡ arrivals scene H b p j
+pub arrivals_same : (scene : Scene) → IsWellFormed scene → (one other : Table) → IsTimely scene one → IsTimely scene other → (b p j : ℕ)
+    → SameFeed scene one other b j → ((port_at scene b p).kind ≡ Values → ⊥) → arrivals scene one b p j ≡ arrivals scene other b p j
 unfolding arrivals
-arrivals_same scene timed G H from_G from_H b p j feed ne = ap (λ (xs : List Sent). map (λ (s : Sent). s.item) (in_order sent_cmp xs)) (flat_map-agree_each (coming scene G j) (coming scene H j) (links_to scene b p)
-    (All-weaker (IsLinkTo scene b p) (λ c. coming scene G j c ≡ coming scene H j c) each (links_to scene b p) (links_lead scene b p)))
+arrivals_same scene formed one other from_one from_other b p j feed ne =
+    ap (λ (xs : List Sent). map (λ (s : Sent). s.item) (in_order sent_cmp xs))
+    (flat_map-agree_each (coming scene one j) (coming scene other j) (links_to scene b p)
+    (All-weaker (IsLinkTo scene b p) (λ c. coming scene one j c ≡ coming scene other j c) each (links_to scene b p) (links_lead scene b p)))
   where
-    each : (c : ℕ) → IsLinkTo scene b p c → coming scene G j c ≡ coming scene H j c
-    each c h = coming_same scene timed G H from_G from_H c j (is_late scene c (λ e. ne (ap (λ (port : PortDecl). port.kind) (sym (input_is scene b p c h)) ∙ e))) (feed.agree c h.0 h.1)
+    each : (c : ℕ) → IsLinkTo scene b p c → coming scene one j c ≡ coming scene other j c
+    each c h =
+        let late : IsLate scene c = is_late scene c (λ e. ne (ap (λ (port : PortDecl). port.kind) (sym (input_is scene b p c h)) ∙ e)) in
+        coming_same scene formed one other from_one from_other c j late (feed.agree c h.0 h.1)
+
+-- ---- which samples a step wants
+
+-- the allowance of a connection whose values are held, and of one whose values are interpolated
+abbrev pub IsHeld : Scene → ℕ → Type 0
+IsHeld scene c = allowance scene c ≡ later_start scene c +ℤ (pos (delay scene c + tick scene (receiver scene c)) -ℤ pos 1)
+
+abbrev pub IsInterpolated : Scene → ℕ → Type 0
+IsInterpolated scene c = allowance scene c ≡ later_start scene c +ℤ (pos (delay scene c + tick scene (receiver scene c)) -ℤ pos (tick scene (sender scene c)))
+
+pub values_allowance : (scene : Scene) (c : ℕ) (interpolated : Bool) → (input_of scene c).kind ≡ Values → (input_of scene c).interpolate ≡ interpolated
+    → allowance scene c ≡ later_start scene c +ℤ allowance_by Values interpolated (latency scene c) (delay scene c) (tick scene (sender scene c)) (tick scene (receiver scene c))
+unfolding allowance
+values_allowance scene c interpolated e f = rw (e, f) refl
+
+-- a held value wants the samples that are not later than what it reads
+pub held_test : (scene : Scene) (c j k : ℕ) → IsHeld scene c → (wants scene c j k ≡ true) ↔ (first_at scene c + run_time scene (sender scene c) k ≤ clock_at scene c j)
+held_test scene c j k held =
+    let sent : ℤ = pos (run_time scene (sender scene c) k) +ℤ allowance scene c in
+    let end : ℤ = pos (run_time scene (receiver scene c) (suc j)) in
+    (λ w. let lt = lt_from_test sent end w in omega (arith, ints, lt, held), λ le. test_from_lt sent end (omega (arith, ints, held)))
+
+-- an interpolated one those that are less than a tick later
+pub between_test : (scene : Scene) (c j k : ℕ) → IsInterpolated scene c → (wants scene c j k ≡ true) ↔ (first_at scene c + run_time scene (sender scene c) k < clock_at scene c j + tick scene (sender scene c))
+between_test scene c j k between =
+    let sent : ℤ = pos (run_time scene (sender scene c) k) +ℤ allowance scene c in
+    let end : ℤ = pos (run_time scene (receiver scene c) (suc j)) in
+    (λ w. let lt = lt_from_test sent end w in omega (arith, ints, lt, between), λ lt. test_from_lt sent end (omega (arith, ints, between)))
+
+-- so both want the last sample that is not later, and an interpolated one the next one too where that has a weight
+module _ (scene : Scene) (formed : IsWellFormed scene) (c j : ℕ) where
+  pub held_wants : IsHeld scene c → first_at scene c ≤ clock_at scene c j → wants scene c j (last_sample scene c j) ≡ true
+  held_wants held le =
+      let whole = div-mul-le_self (clock_at scene c j - first_at scene c) (tick scene (sender scene c)) in
+      (held_test scene c j (last_sample scene c j) held).1 (omega (arith, whole))
+
+  pub between_wants : IsInterpolated scene c → first_at scene c ≤ clock_at scene c j → wants scene c j (last_sample scene c j) ≡ true
+  between_wants between le =
+      let whole = div-mul-le_self (clock_at scene c j - first_at scene c) (tick scene (sender scene c)) in
+      let some = tick_some scene formed (sender scene c) in
+      (between_test scene c j (last_sample scene c j) between).1 (omega (arith, whole))
+
+  pub next_wants : IsInterpolated scene c → first_at scene c ≤ clock_at scene c j → 0 < (clock_at scene c j - first_at scene c) % tick scene (sender scene c)
+      → wants scene c j (last_sample scene c j + 1) ≡ true
+  next_wants between le rest =
+      let whole = div-add-mod' (clock_at scene c j - first_at scene c) (tick scene (sender scene c)) in
+      (between_test scene c j (last_sample scene c j + 1) between).1 (omega (arith, whole))
 
 -- ---- values
 
-module _ (scene : Scene) (G H : Table) (short_G : IsShort scene G) (short_H : IsShort scene H) (b j : ℕ) (feed : SameFeed scene G H b j) where
+module _ (scene : Scene) (one other : Table) (short_one : IsShort scene one) (short_other : IsShort scene other) (b j : ℕ) (feed : SameFeed scene one other b j) where
   -- a step that is wanted, or the last before it
   last_same : (c k : ℕ) → c < length scene.links → receiver scene c ≡ b → wants scene c j k ≡ true
-      → block_on scene G c (min k (length (steps_of G (sender scene c)) - 1)) ≡ block_on scene H c (min k (length (steps_of H (sender scene c)) - 1))
+      → block_on scene one c (min k (length (steps_of one (sender scene c)) - 1)) ≡ block_on scene other c (min k (length (steps_of other (sender scene c)) - 1))
   last_same c k link to want = go (cases_lt k (steps scene (sender scene c)))
     where
-      long_G : wanted scene c j ≤ length (steps_of G (sender scene c))
-      long_G = feed.has_left c link to
+      long_one : wanted scene c j ≤ length (steps_of one (sender scene c))
+      long_one = feed.has_left c link to
 
-      long_H : wanted scene c j ≤ length (steps_of H (sender scene c))
-      long_H = feed.has_right c link to
+      long_other : wanted scene c j ≤ length (steps_of other (sender scene c))
+      long_other = feed.has_right c link to
 
-      empty : (T : Table) → length (steps_of T (sender scene c)) ≡ 0 → (i : ℕ) → block_on scene T c i ≡ []
-      empty T e i = ap (λ (o : StepOutput). slice_index_or o (link_at scene c).from_port []) (get_or_past (steps_of T (sender scene c)) i [] (omega arith))
+      empty : (table : Table) → length (steps_of table (sender scene c)) ≡ 0 → (i : ℕ) → block_on scene table c i ≡ []
+      empty table e i = ap (λ (o : StepOutput). slice_index_or o (link_at scene c).from_port []) (get_or_past (steps_of table (sender scene c)) i [] (omega arith))
 
       past : wanted scene c j ≡ steps scene (sender scene c) → steps scene (sender scene c) ≤ k → (0 < steps scene (sender scene c)) ⊎ (steps scene (sender scene c) ≤ 0)
-          → block_on scene G c (min k (length (steps_of G (sender scene c)) - 1)) ≡ block_on scene H c (min k (length (steps_of H (sender scene c)) - 1))
+          → block_on scene one c (min k (length (steps_of one (sender scene c)) - 1)) ≡ block_on scene other c (min k (length (steps_of other (sender scene c)) - 1))
       past all after (inl some) =
-          let eg : min k (length (steps_of G (sender scene c)) - 1) ≡ steps scene (sender scene c) - 1 = omega (arith, long_G, short_G.rows (sender scene c)) in
-          let eh : min k (length (steps_of H (sender scene c)) - 1) ≡ steps scene (sender scene c) - 1 = omega (arith, long_H, short_H.rows (sender scene c)) in
+          let eg : min k (length (steps_of one (sender scene c)) - 1) ≡ steps scene (sender scene c) - 1 = omega (arith, long_one, short_one.rows (sender scene c)) in
+          let eh : min k (length (steps_of other (sender scene c)) - 1) ≡ steps scene (sender scene c) - 1 = omega (arith, long_other, short_other.rows (sender scene c)) in
           rw (eg, eh) (feed.agree c link to (steps scene (sender scene c) - 1) (omega arith))
-      past all after (inr none) = empty G (omega (arith, short_G.rows (sender scene c))) _ ∙ sym (empty H (omega (arith, short_H.rows (sender scene c))) _)
+      past all after (inr none) = empty one (omega (arith, short_one.rows (sender scene c))) _ ∙ sym (empty other (omega (arith, short_other.rows (sender scene c))) _)
 
-      go : (k < steps scene (sender scene c)) ⊎ (steps scene (sender scene c) ≤ k) → block_on scene G c (min k (length (steps_of G (sender scene c)) - 1)) ≡ block_on scene H c (min k (length (steps_of H (sender scene c)) - 1))
+      go : (k < steps scene (sender scene c)) ⊎ (steps scene (sender scene c) ≤ k) → block_on scene one c (min k (length (steps_of one (sender scene c)) - 1)) ≡ block_on scene other c (min k (length (steps_of other (sender scene c)) - 1))
       go (inl small) =
           let w : k < wanted scene c j = wanted_below scene c j k small want in
-          let eg : min k (length (steps_of G (sender scene c)) - 1) ≡ k = omega (arith, long_G) in
-          let eh : min k (length (steps_of H (sender scene c)) - 1) ≡ k = omega (arith, long_H) in
+          let eg : min k (length (steps_of one (sender scene c)) - 1) ≡ k = omega (arith, long_one) in
+          let eh : min k (length (steps_of other (sender scene c)) - 1) ≡ k = omega (arith, long_other) in
           rw (eg, eh) (feed.agree c link to k w)
       go (inr after) = past (wanted_all scene c j k after want) after (cases_lt 0 (steps scene (sender scene c)))
 
   -- so the same sample is read
-  sample_same : (c k g : ℕ) → c < length scene.links → receiver scene c ≡ b → wants scene c j k ≡ true → sample scene G c g k ≡ sample scene H c g k
+  sample_same : (c k g : ℕ) → c < length scene.links → receiver scene c ≡ b → wants scene c j k ≡ true → sample scene one c g k ≡ sample scene other c g k
   sample_same c k g link to want = ap (λ (o : List Item). value_in o g) (last_same c k link to want)
 
 -- a reading depends on the sample at its time, and where it interpolates on the next one unless that has no weight
@@ -188,56 +248,41 @@ reading_same true v w h x e next = go (next refl)
     go (inl zero_rest) = rw (zero_rest, e, *ℤ-zero, *ℤ-zero) refl
     go (inr f) = rw (e, f) refl
 
--- with hold a step wants the sample that it reads; with interpolation the next one too, where it lies between
-pub held_wants : (scene : Scene) → IsWellFormed scene → (c j : ℕ) → allowance scene c ≡ later_start scene c +ℤ (pos (delay scene c + tick scene (receiver scene c)) -ℤ pos 1) → first_at scene c ≤ clock_at scene c j
-    → wants scene c j ((clock_at scene c j - first_at scene c) / tick scene (sender scene c)) ≡ true
-held_wants scene timed c j e le = rw e (test_from_lt (pos ((clock_at scene c j - first_at scene c) / tick scene (sender scene c) * tick scene (sender scene c)) +ℤ (later_start scene c +ℤ (pos (delay scene c + tick scene (receiver scene c)) -ℤ pos 1))) (pos (suc j * tick scene (receiver scene c)))
-    (let m = div-mul-le_self (clock_at scene c j - first_at scene c) (tick scene (sender scene c)) in let t = tick_some scene timed (receiver scene c) in omega (arith, ints)))
-
-pub between_wants : (scene : Scene) → IsWellFormed scene → (c j : ℕ) → allowance scene c ≡ later_start scene c +ℤ (pos (delay scene c + tick scene (receiver scene c)) -ℤ pos (tick scene (sender scene c))) → first_at scene c ≤ clock_at scene c j
-    → wants scene c j ((clock_at scene c j - first_at scene c) / tick scene (sender scene c)) ≡ true
-between_wants scene timed c j e le = rw e (test_from_lt (pos ((clock_at scene c j - first_at scene c) / tick scene (sender scene c) * tick scene (sender scene c)) +ℤ (later_start scene c +ℤ (pos (delay scene c + tick scene (receiver scene c)) -ℤ pos (tick scene (sender scene c))))) (pos (suc j * tick scene (receiver scene c)))
-    (let m = div-mul-le_self (clock_at scene c j - first_at scene c) (tick scene (sender scene c)) in let t = tick_some scene timed (sender scene c) in omega (arith, ints)))
-
-pub next_wants : (scene : Scene) → IsWellFormed scene → (c j : ℕ) → allowance scene c ≡ later_start scene c +ℤ (pos (delay scene c + tick scene (receiver scene c)) -ℤ pos (tick scene (sender scene c))) → first_at scene c ≤ clock_at scene c j
-    → 0 < (clock_at scene c j - first_at scene c) % tick scene (sender scene c) → wants scene c j ((clock_at scene c j - first_at scene c) / tick scene (sender scene c) + 1) ≡ true
-next_wants scene timed c j e le rest = rw e (test_from_lt (pos (((clock_at scene c j - first_at scene c) / tick scene (sender scene c) + 1) * tick scene (sender scene c)) +ℤ (later_start scene c +ℤ (pos (delay scene c + tick scene (receiver scene c)) -ℤ pos (tick scene (sender scene c))))) (pos (suc j * tick scene (receiver scene c)))
-    (let m = div-add-mod' (clock_at scene c j - first_at scene c) (tick scene (sender scene c)) in let t = tick_some scene timed (sender scene c) in omega (arith, ints)))
-
--- the allowance of a connection that brings values
-pub values_allowance : (scene : Scene) (c : ℕ) (interpolated : Bool) → (input_of scene c).kind ≡ Values → (input_of scene c).interpolate ≡ interpolated
-    → allowance scene c ≡ later_start scene c +ℤ allowance_by Values interpolated (latency scene c) (delay scene c) (tick scene (sender scene c)) (tick scene (receiver scene c))
-unfolding allowance
-values_allowance scene c interpolated e f = rw (e, f) refl
-
-module _ (scene : Scene) (timed : IsWellFormed scene) (G H : Table) (short_G : IsShort scene G) (short_H : IsShort scene H) (b j : ℕ) (feed : SameFeed scene G H b j) where
-  value_on_same : (g c : ℕ) → c < length scene.links → receiver scene c ≡ b → (input_of scene c).kind ≡ Values → value_on scene G j g c ≡ value_on scene H j g c
+module _ (scene : Scene) (formed : IsWellFormed scene) (one other : Table) (short_one : IsShort scene one) (short_other : IsShort scene other) (b j : ℕ) (feed : SameFeed scene one other b j) where
+  value_on_same : (g c : ℕ) → c < length scene.links → receiver scene c ≡ b → (input_of scene c).kind ≡ Values → value_on scene one j g c ≡ value_on scene other j g c
   value_on_same g c link to kind = go (nat_lt (clock_at scene c j) (first_at scene c)) refl
     where
-      first : (i : Bool) → (input_of scene c).interpolate ≡ i → first_at scene c ≤ clock_at scene c j → wants scene c j ((clock_at scene c j - first_at scene c) / tick scene (sender scene c)) ≡ true
-      first false e le = held_wants scene timed c j (values_allowance scene c false kind e) le
-      first true e le = between_wants scene timed c j (values_allowance scene c true kind e) le
+      ticks : ℕ
+      ticks = tick scene (sender scene c)
 
-      next : first_at scene c ≤ clock_at scene c j → (input_of scene c).interpolate ≡ true
-          → ((clock_at scene c j - first_at scene c) % tick scene (sender scene c) ≡ 0) ⊎ ((clock_at scene c j - first_at scene c) % tick scene (sender scene c) ≡ 0 → ⊥)
-          → ((clock_at scene c j - first_at scene c) % tick scene (sender scene c) ≡ 0) ⊎ (sample scene G c g ((clock_at scene c j - first_at scene c) / tick scene (sender scene c) + 1) ≡ sample scene H c g ((clock_at scene c j - first_at scene c) / tick scene (sender scene c) + 1))
-      next le e (inl z) = inl z
-      next le e (inr nz) = inr (sample_same scene G H short_G short_H b j feed c _ g link to (next_wants scene timed c j (values_allowance scene c true kind e) le (omega arith)))
+      late : ℕ
+      late = clock_at scene c j - first_at scene c
+
+      -- the sample k is the same where it is wanted
+      same : (k : ℕ) → wants scene c j k ≡ true → sample scene one c g k ≡ sample scene other c g k
+      same k want = sample_same scene one other short_one short_other b j feed c k g link to want
+
+      first : (i : Bool) → (input_of scene c).interpolate ≡ i → first_at scene c ≤ clock_at scene c j → wants scene c j (last_sample scene c j) ≡ true
+      first false e le = held_wants scene formed c j (values_allowance scene c false kind e) le
+      first true e le = between_wants scene formed c j (values_allowance scene c true kind e) le
+
+      next : first_at scene c ≤ clock_at scene c j → (input_of scene c).interpolate ≡ true → (late % ticks ≡ 0) ⊎ (late % ticks ≡ 0 → ⊥)
+          → (late % ticks ≡ 0) ⊎ (sample scene one c g (late / ticks + 1) ≡ sample scene other c g (late / ticks + 1))
+      next le e (inl none) = inl none
+      next le e (inr some) = inr (same _ (next_wants scene formed c j (values_allowance scene c true kind e) le (omega arith)))
 
       go : (t : Bool) → nat_lt (clock_at scene c j) (first_at scene c) ≡ t
-          → cond t (pos 0) (reading (input_of scene c).interpolate (sample scene G c g) (tick scene (sender scene c)) (clock_at scene c j - first_at scene c))
-          ≡ cond t (pos 0) (reading (input_of scene c).interpolate (sample scene H c g) (tick scene (sender scene c)) (clock_at scene c j - first_at scene c))
+          → cond t (pos 0) (reading (input_of scene c).interpolate (sample scene one c g) ticks late) ≡ cond t (pos 0) (reading (input_of scene c).interpolate (sample scene other c g) ticks late)
       go true e = refl
       go false e =
           let le : first_at scene c ≤ clock_at scene c j = ltb-false _ _ e in
-          reading_same (input_of scene c).interpolate (sample scene G c g) (sample scene H c g) (tick scene (sender scene c)) (clock_at scene c j - first_at scene c)
-          (sample_same scene G H short_G short_H b j feed c _ g link to (first (input_of scene c).interpolate refl le)) (λ f. next le f (cases_eq _ 0))
+          reading_same (input_of scene c).interpolate (sample scene one c g) (sample scene other c g) ticks late (same _ (first (input_of scene c).interpolate refl le)) (λ f. next le f (cases_eq _ 0))
 
   -- so the same is read of each index
-  pub value_same : (p g : ℕ) → (port_at scene b p).kind ≡ Values → value scene G b p j g ≡ value scene H b p j g
+  pub value_same : (p g : ℕ) → (port_at scene b p).kind ≡ Values → value scene one b p j g ≡ value scene other b p j g
   unfolding value
   value_same p g kind = over (links_to scene b p) (links_lead scene b p)
     where
-      over : (cs : List ℕ) → AllByRecursion (IsLinkTo scene b p) cs → value_over scene G j g cs ≡ value_over scene H j g cs
+      over : (cs : List ℕ) → AllByRecursion (IsLinkTo scene b p) cs → value_over scene one j g cs ≡ value_over scene other j g cs
       over [] h = refl
       over (c ∷ cs) h = value_on_same g c h.0.0 h.0.1 (ap (λ (port : PortDecl). port.kind) (input_is scene b p c h.0) ∙ kind)

@@ -1,5 +1,5 @@
 -- Steps and clocks, due steps, and the blocks that a step wants. All times are in ns.
-use Rattle.std.specs.Prelude.{ℕ, zero, suc, ◌+◌, ◌-◌, ◌*◌, Bool, true, false, int_lt, ℤ, pos, ◌+ℤ◌, ◌-ℤ◌, Option}
+use Rattle.std.specs.Prelude.{ℕ, zero, suc, ◌+◌, ◌-◌, ◌*◌, ◌/◌, Bool, true, false, int_lt, ℤ, pos, ◌+ℤ◌, ◌-ℤ◌, Option}
 use Rattle.std.specs.Option.{unwrap_or}
 use Rattle.music_base.specs.Clocks.{steps_until, due_step_from}
 use Rattle.music_base.specs.Numbers.{count_below}
@@ -96,3 +96,7 @@ clock_at scene c j = clock scene (receiver scene c) j
 -- the clock of the receiver at which the first sample of a connection is read: a delay behind the sender's start
 abbrev pub first_at : Scene → ℕ → ℕ
 first_at scene c = start scene (sender scene c) + delay scene c
+
+-- the number of the last sample that is not later than what step j reads, where that is not before the first sample
+abbrev pub last_sample : Scene → ℕ → ℕ → ℕ
+last_sample scene c j = (clock_at scene c j - first_at scene c) / tick scene (sender scene c)

@@ -1,9 +1,9 @@
 //! Laws over tables: which tables a scene leaves as they are, what a step wants of them, and what its rows are of.
-ghost use Rattle.std.specs.Prelude.{◌≡◌, ◌↔◌, ◌<◌, ◌≤◌, ◌-◌, ◌+◌, ◌*◌, ◌/◌, ◌%◌, ℕ, suc, List, Some, true, false};
+ghost use Rattle.std.specs.Prelude.{◌≡◌, ◌↔◌, ◌<◌, ◌≤◌, ◌-◌, ◌+◌, ◌*◌, ◌%◌, ℕ, suc, List, Some, true, false};
 ghost use Rattle.std.specs.List.Sorted.{IsSorted, IsStable};
 ghost use Rattle.music_base.specs.Clocks.{due_step_from};
 ghost use Rattle.music_base.specs.Numbers.{in_order};
-ghost use Rattle.scene_model.specs.Clocks.{clock, clock_at, due, first_at, latency, steps, tick, wanted, wants};
+ghost use Rattle.scene_model.specs.Clocks.{clock, clock_at, due, first_at, last_sample, latency, steps, tick, wanted, wants};
 ghost use Rattle.scene_model.specs.Due.{is_step_from};
 ghost use Rattle.scene_model.specs.Faults.{IsFaultless};
 ghost use Rattle.scene_model.specs.Lives.{again, history, inputs};
@@ -74,15 +74,16 @@ pub fn steps_want_what_they_read()
         is_step_from (suc j) (due scene c time) ≡ true }
     ensures held { (scene : Scene) (c j k : ℕ) → IsFaultless scene → (input_of scene c).kind ≡ Values →
         (input_of scene c).interpolate ≡ false → first_at scene c ≤ clock_at scene c j →
-        (wants scene c j k ≡ true) ↔ (k ≤ (clock_at scene c j - first_at scene c) / tick scene (sender scene c)) }
+        (wants scene c j k ≡ true) ↔ (k ≤ last_sample scene c j) }
     ensures held_none { (scene : Scene) (c j k : ℕ) → IsFaultless scene → (input_of scene c).kind ≡ Values →
         (input_of scene c).interpolate ≡ false → clock_at scene c j < first_at scene c → wants scene c j k ≡ false }
     ensures between { (scene : Scene) (c j k : ℕ) → IsFaultless scene → (input_of scene c).kind ≡ Values →
         (input_of scene c).interpolate ≡ true → first_at scene c ≤ clock_at scene c j →
-        k ≤ (clock_at scene c j - first_at scene c) / tick scene (sender scene c) → wants scene c j k ≡ true }
+        k ≤ last_sample scene c j → wants scene c j k ≡ true }
     ensures next { (scene : Scene) (c j : ℕ) → IsFaultless scene → (input_of scene c).kind ≡ Values →
         (input_of scene c).interpolate ≡ true → first_at scene c ≤ clock_at scene c j →
-        (wants scene c j ((clock_at scene c j - first_at scene c) / tick scene (sender scene c) + 1) ≡ true) ↔ (0 < (clock_at scene c j - first_at scene c) % tick scene (sender scene c)) }
+        (wants scene c j (last_sample scene c j + 1) ≡ true) ↔
+        (0 < (clock_at scene c j - first_at scene c) % tick scene (sender scene c)) }
 {}
 
 /// What is due in a step or later is what its latency puts no earlier than the clock of that step (`numbers`, and of a
