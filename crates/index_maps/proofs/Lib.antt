@@ -1,5 +1,7 @@
 pub mod Ascending
 pub mod Counts
+pub mod CutSteps
+pub mod Halving
 pub mod Joining
 pub mod OneSpan
 pub mod Pigeonholes

@@ -1,3 +1,4 @@
+pub mod Cuts
 pub mod Indices
 pub mod Intervals
 pub mod Maps

@@ -4,6 +4,7 @@
 //! indices, or a permutation, a list of indices in any order.
 #![tactic(auto)]
 
+mod cuts;
 mod interval;
 mod laws;
 mod list;
@@ -12,7 +13,9 @@ mod mapping;
 mod permuting;
 mod rank;
 mod span;
+mod steps;
 
+pub use cuts::Cuts;
 pub use interval::Interval;
 pub use laws::maps_compute;
 pub use list::IndexList;
@@ -20,3 +23,4 @@ pub use map::{IndexMap, PortMap};
 pub use permuting::{MapFault, permutation};
 pub use rank::RankMap;
 pub use span::{INDEX_LIMIT, Span};
+pub use steps::Steps;

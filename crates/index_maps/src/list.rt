@@ -59,6 +59,7 @@ impl IndexList {
     pub fn len(&self) -> u32
         ensures length { result ≡ length self.now }
         ensures limit { length self.now ≤ INDEX_LIMIT }
+        ensures differ { are_indices self.now ≡ true }
     {
         self.as_slice().len() as u32
     }

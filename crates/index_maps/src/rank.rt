@@ -1,5 +1,6 @@
-ghost use Rattle.std.specs.Prelude.{◌≡◌, ◌==◌, ◌+◌, ◌-◌, ◌<◌, length, slice_get};
+ghost use Rattle.std.specs.Prelude.{◌≡◌, ◌==◌, ◌+◌, ◌-◌, ◌<◌, true, length, slice_get};
 ghost use Rattle.std.specs.List.{position};
+ghost use Rattle.index_maps.specs.Indices.{are_indices};
 ghost use Rattle.index_maps.specs.Maps.{globals_of, globals, rank_count, split_at};
 ghost use Rattle.index_maps.specs.Ranks.{mapped};
 ghost use Rattle.index_maps.specs.declared.map.PortMap.TheVariants.{Split};
@@ -50,13 +51,37 @@ impl PortMap {
             PortMap::Split { span, ranks } => RankMap::Linear(part_of(*span, *ranks, rank.0)),
         }
     }
+
+    /// How many indices a rank of the port maps, none of them twice.
+    pub fn size_at(&self, rank: Rank) -> u32
+        requires { rank < rank_count self.now }
+        ensures size { result ≡ length (globals_of self.now rank) }
+        ensures indices { are_indices (globals_of self.now rank) ≡ true }
+    {
+        match self {
+            PortMap::Each(maps) => lent(&maps.as_slice()[rank.0 as usize]).size(),
+            PortMap::Split { span, ranks } => RankMap::Linear(part_of(*span, *ranks, rank.0)).size(),
+        }
+    }
+
+    /// The global index at a local place of a rank of the port. `None` exactly where the rank maps no index there.
+    pub fn global_at(&self, rank: Rank, local: u32) -> Option<u32>
+        requires { rank < rank_count self.now }
+        ensures { result ≡ slice_get (globals_of self.now rank) local }
+    {
+        match self {
+            PortMap::Each(maps) => lent(&maps.as_slice()[rank.0 as usize]).global_of(local),
+            PortMap::Split { span, ranks } => part_of(*span, *ranks, rank.0).global_of(local),
+        }
+    }
 }
 
 impl RankMap<'_> {
-    /// How many indices the rank maps.
+    /// How many indices the rank maps, none of them twice.
     #[tactic(auto, using(crate::proofs::Ranges::length_range))]
     pub fn size(&self) -> u32
-        ensures { result ≡ length (mapped self.now) }
+        ensures size { result ≡ length (mapped self.now) }
+        ensures indices { are_indices (mapped self.now) ≡ true }
     {
         match self {
             RankMap::Linear(span) => span.size(),

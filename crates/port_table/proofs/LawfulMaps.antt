@@ -13,6 +13,7 @@ use Rattle.index_maps.specs.declared.map.IndexMap.{IndexMap}
 use Rattle.index_maps.specs.declared.map.IndexMap.TheVariants.{Linear, Permutation}
 use Rattle.index_maps.specs.declared.map.PortMap.{PortMap}
 use Rattle.index_maps.specs.declared.map.PortMap.TheVariants.{Each, Split}
+use Rattle.index_maps.proofs.Ranges.{are_indices-range}
 use Rattle.index_maps.proofs.Repeats.{indices_differ}
 use Rattle.index_maps.proofs.Splits.{split_at_rises, split_at_ends}
 use Rattle.music_base.specs.Counts.{count_up_to}
@@ -27,24 +28,6 @@ use Rattle.scene_model.specs.declared.port.Direction.TheVariants.{Output, Input}
 use Rattle.scene_model.specs.declared.port.PortKind.TheVariants.{Messages}
 use Rattle.music_base.specs.Times.{plus}
 use Rattle.port_table.specs.MapWords.{comma, index_list, map_in, map_repeat, message_map, one_index, rank_map, rank_maps, rank_repeat, slash, span_in, split_map, split_span}
-
--- ---- consecutive indices
-
-all_below : (base size : ℕ) → base + size ≤ INDEX_LIMIT → list_all (λ i. nat_lt i INDEX_LIMIT) (range_with_len base size) ≡ true
-all_below base zero le = refl
-all_below base (suc size) le = rw (lt-ltb base INDEX_LIMIT (omega arith)) (all_below (base + 1) size (omega arith))
-
--- an index before others is none of them
-none_before : (g base size : ℕ) → g < base → list_any (λ i. nat_eq g i) (range_with_len base size) ≡ false
-none_before g base zero lt = refl
-none_before g base (suc size) lt = rw (ne_eqb g base (λ same. omega arith)) (none_before g (base + 1) size (omega arith))
-
-all_apart : (base size : ℕ) → all_differ ◌==◌ (range_with_len base size) ≡ true
-all_apart base zero = refl
-all_apart base (suc size) = rw (none_before base (base + 1) size (omega arith)) (all_apart (base + 1) size)
-
-range_is : (base size : ℕ) → base + size ≤ INDEX_LIMIT → are_indices (range_with_len base size) ≡ true
-range_is base size le = rw (all_below base size le) (all_apart base size)
 
 -- ---- what words spell
 
@@ -144,7 +127,7 @@ message_map-maps np Input (suc r) lt =
 -- ---- where no list repeats an index
 
 rank_is : (map : IndexMap) → IsRankWithin map → rank_repeat map ≡ None → are_indices (globals map) ≡ true
-rank_is (Linear span) within once = range_is span.base span.size within
+rank_is (Linear span) within once = are_indices-range span.base span.size within
 rank_is (Permutation list) within once = indices_differ list within once
 
 parts_once : (first others : Option ℕ) → option_or first others ≡ None → (first ≡ None) × (others ≡ None)
@@ -160,7 +143,7 @@ part_is : (span : Extent) (ranks r : ℕ) → r < ranks → span.base + span.siz
 part_is span ranks r lt within =
     let rises = split_at_rises span.size ranks r (r + 1) (omega arith) (omega arith) in
     let ends = split_at_ends span.size ranks (r + 1) (omega arith) (omega arith) in
-    range_is (split_at span ranks r) (split_at span ranks (r + 1) - split_at span ranks r) (omega (arith, rises, ends))
+    are_indices-range (split_at span ranks r) (split_at span ranks (r + 1) - split_at span ranks r) (omega (arith, rises, ends))
 
 globals_are : (map : PortMap) (r : ℕ) → r < rank_count map → IsWithin map → map_repeat map ≡ None → are_indices (globals_of map r) ≡ true
 globals_are (Each maps) r lt within once = each_is maps r within once
