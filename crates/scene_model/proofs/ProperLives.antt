@@ -5,8 +5,6 @@ use Rattle.std.specs.List.{AllByRecursion}
 use Rattle.std.proofs.lemmas.Bool.{and_parts, leb-true, ltb-true}
 use Rattle.std.proofs.lemmas.List.{length-map, get_or-map}
 use Rattle.std.proofs.lemmas.List.FromFn.{length-map-range_with_len, get_or-map-range_with_len}
-use Rattle.std.proofs.lemmas.List.Elements.{recursion_from_All}
-use Rattle.std.proofs.lemmas.List.Sums.{AllPass-from_list_all}
 use Rattle.music_base.specs.declared.item.Item.{Item}
 use Rattle.music_base.specs.declared.item.Item.TheVariants.{Event, Value, Message}
 use Rattle.music_base.specs.Items.{AreValues, IsMessageWithin}
@@ -16,7 +14,7 @@ use Rattle.scene_model.specs.Clocks.{span, tick, steps, clock}
 use Rattle.scene_model.specs.Faults.{IsApp, IsFaultless}
 use Rattle.scene_model.specs.Lives.{again, life, moment, state_before, step_output}
 use Rattle.scene_model.specs.Ports.{names_differ}
-use Rattle.scene_model.specs.Rules.{after_fits, has_port, indices_stand, is_mapped, is_rate, ports_stand, rate_fits, runs_for, stands}
+use Rattle.scene_model.specs.Rules.{runs_for}
 use Rattle.scene_model.specs.Scenes.{app_at, no_port, port_at}
 use Rattle.scene_model.specs.Tables.{IsEventWithin, IsProper, IsProperBlock, StepOutput, Table, step_of, steps_of}
 use Rattle.scene_model.specs.Turns.{Moment, clock_of, emissions, emitted, end_of, event, event_mapped, input_items, is_over, is_within, message, passed, port_named, port_output, replied, same_name, target_of, times_within, turn, value_given, with_state}
@@ -26,31 +24,12 @@ use Rattle.scene_model.specs.declared.port.PortDecl.{PortDecl}
 use Rattle.scene_model.specs.declared.port.PortKind.{PortKind}
 use Rattle.scene_model.specs.declared.port.PortKind.TheVariants.{Events, Values, Messages}
 use Rattle.scene_model.specs.declared.rule.Rule.{Rule}
-use Rattle.scene_model.specs.declared.rule.Rule.TheVariants.{EmitAt, EmitEvery, Pass, When, Say, Reply}
+use Rattle.scene_model.specs.declared.rule.Rule.TheVariants.{CopyValues, EmitAt, EmitEvery, Pass, Ramp, Reply, Say, SetValue, When}
 use Rattle.scene_model.specs.declared.scene.Scene.{Scene}
 use Rattle.scene_model.proofs.Emissions.{emissions-each, port_named-at}
-use Rattle.scene_model.proofs.Faultless.{app_is, of_one_kind}
+use Rattle.scene_model.proofs.Faultless.{app_is}
+use Rattle.scene_model.proofs.RuleCases.{HasPort, IsRule, are_rules}
 use Rattle.scene_model.proofs.Times.{times_between-within}
-
--- ---- what a rule asks
-
-record Stands (ports : List PortDecl) (tick lasts : ℕ) (rule : Rule) : Type 0 where
-  has_ports : ports_stand ports rule ≡ true
-  has_indices : indices_stand ports rule ≡ true
-  after : after_fits tick rule ≡ true
-  rate : rate_fits lasts rule ≡ true
-
-asks : (ports : List PortDecl) (tick lasts : ℕ) (rule : Rule) → stands ports tick lasts rule ≡ true → Stands ports tick lasts rule
-asks ports tick lasts rule is =
-    let three = and_parts (ports_stand ports rule && indices_stand ports rule && after_fits tick rule) (rate_fits lasts rule) is in
-    let two = and_parts (ports_stand ports rule && indices_stand ports rule) (after_fits tick rule) three.0 in
-    let one = and_parts (ports_stand ports rule) (indices_stand ports rule) two.0 in
-    record { has_ports = one.0; has_indices = one.1; after = two.1; rate = three.1 }
-
-mapped_is : (ports : List PortDecl) (name : List ℕ) (index : ℕ) → is_mapped ports name index ≡ true
-    → maps_index (port_named ports name).map index ≡ true
-unfolding is_mapped
-mapped_is ports name index is = is
 
 -- a value for each of some indices
 pub are_values : (f : ℕ → ℤ) (gs : List ℕ) → AreValues gs (map (λ g. Value g (f g)) gs)
@@ -59,7 +38,7 @@ are_values f (g ∷ gs) = (refl, are_values f gs)
 
 -- ---- what a rule emits
 
-module _ (m : Moment) (lasts : ℕ) (ticks : 1 ≤ m.tick) where
+module _ (m : Moment) (ticks : 1 ≤ m.tick) where
   abbrev IsInside : ℕ → Type 0
   IsInside time = (clock_of m ≤ time) × (time < end_of m)
 
@@ -72,12 +51,11 @@ module _ (m : Moment) (lasts : ℕ) (ticks : 1 ≤ m.tick) where
   abbrev AreOf : PortKind → PortDecl → List Item → Type 0
   AreOf kind port = AllByRecursion (IsOf kind port)
 
-  soon : (after : ℕ) → nat_lt after m.tick ≡ true → IsInside (clock_of m + after)
-  soon after is = let early : after < m.tick = ltb-true after m.tick is in (omega arith, omega arith)
+  soon : (after : ℕ) → after < m.tick → IsInside (clock_of m + after)
+  soon after early = (omega arith, omega arith)
 
-  each_period : (every first : ℕ) → is_rate lasts every ≡ true → AllByRecursion IsInside (times_within m every first)
-  unfolding is_rate
-  each_period every first is = times_between-within every first (clock_of m) (end_of m) (leb-true 1 every (and_parts _ _ is).0)
+  each_period : (every first : ℕ) → 1 ≤ every → AllByRecursion IsInside (times_within m every first)
+  each_period every first some = times_between-within every first (clock_of m) (end_of m) some
 
   mapped_event : (port : PortDecl) (time : ℕ) (z : ℤ) → IsInside time → AreOf Events port (event_mapped port.map time z)
   mapped_event port time (pos g) inside =
@@ -92,58 +70,56 @@ module _ (m : Moment) (lasts : ℕ) (ticks : 1 ≤ m.tick) where
   reply port time inside (Message said) = (inside, tt)
   reply port time inside item = tt
 
-  on_port : (name : List ℕ) (kind : PortKind) (items : List Item) → has_port m.ports name Output kind ≡ true
+  on_port : (name : List ℕ) (kind : PortKind) (items : List Item) → HasPort m.ports name Output kind
       → AreOf kind (port_named m.ports name) items → AreOf (port_named m.ports name).kind (port_named m.ports name) items
-  unfolding has_port
-  on_port name kind items is all =
-      let same : (port_named m.ports name).kind ≡ kind = of_one_kind _ _ (and_parts _ _ is).1 in
-      rw same all
+  on_port name kind items has all = rw has.is_kind all
 
-  emits : (rule : Rule) (was_over : Bool) → Stands m.ports m.tick lasts rule
+  emits : (rule : Rule) (was_over : Bool) → IsRule m.ports m.tick rule
       → AreOf (port_named m.ports (target_of rule)).kind (port_named m.ports (target_of rule)) (emitted m rule was_over)
-  emits (EmitAt port index time) was_over is =
-      on_port port Events _ is.has_ports (All-when (IsOf Events (port_named m.ports port)) (is_within m time) (event index time ∷ []) (λ within.
+  emits (EmitAt port index time) was_over (has, mapped) =
+      on_port port Events _ has (All-when (IsOf Events (port_named m.ports port)) (is_within m time) (event index time ∷ []) (λ within.
       let parts = and_parts (nat_le (clock_of m) time) (nat_lt time (end_of m)) within in
-      ((leb-true _ _ parts.0, ltb-true _ _ parts.1, mapped_is m.ports port index is.has_indices), tt)))
-  emits (EmitEvery port index every first) was_over is =
+      ((leb-true _ _ parts.0, ltb-true _ _ parts.1, mapped), tt)))
+  emits (EmitEvery port index every first) was_over (has, mapped, some) =
       let to : PortDecl = port_named m.ports port in
-      on_port port Events _ is.has_ports (All-map (IsOf Events to) (event index) (times_within m every first)
-      (All-weaker IsInside (λ t. IsOf Events to (event index t)) (λ t inside. (inside.0, inside.1, mapped_is m.ports port index is.has_indices))
-      (times_within m every first) (each_period every first is.rate)))
-  emits (Pass input output shift after) was_over is =
+      on_port port Events _ has (All-map (IsOf Events to) (event index) (times_within m every first)
+      (All-weaker IsInside (λ t. IsOf Events to (event index t)) (λ t inside. (inside.0, inside.1, mapped))
+      (times_within m every first) (each_period every first some)))
+  emits (Pass input output shift after) was_over (from, has, early) =
       let to : PortDecl = port_named m.ports output in
-      on_port output Events _ (and_parts _ _ is.has_ports).1 (All-flat_map_of (IsOf Events to) (passed to.map (clock_of m + after) shift)
-      (passed_event to (clock_of m + after) shift (soon after is.after)) (input_items m input))
-  emits (When input index over output x) was_over is =
+      on_port output Events _ has (All-flat_map_of (IsOf Events to) (passed to.map (clock_of m + after) shift)
+      (passed_event to (clock_of m + after) shift (soon after early)) (input_items m input))
+  emits (When input index over output x) was_over (from, there, has, mapped) =
       let to : PortDecl = port_named m.ports output in
-      on_port output Events _ (and_parts _ _ is.has_ports).1
-      (All-when (IsOf Events to) (is_over m input index over && not was_over) (event x (clock_of m) ∷ []) (λ yes.
-      ((omega arith, omega arith, mapped_is m.ports output x (and_parts _ _ is.has_indices).1), tt)))
-  emits (Say port word every first) was_over is =
-      on_port port Messages _ is.has_ports
-      (All-map (IsOf Messages (port_named m.ports port)) (message word) (times_within m every first) (each_period every first is.rate))
-  emits (Reply input output after) was_over is =
+      on_port output Events _ has
+      (All-when (IsOf Events to) (is_over m input index over && not was_over) (event x (clock_of m) ∷ []) (λ rises. ((omega arith, omega arith, mapped), tt)))
+  emits (Say port word every first) was_over (has, some) =
+      on_port port Messages _ has
+      (All-map (IsOf Messages (port_named m.ports port)) (message word) (times_within m every first) (each_period every first some))
+  emits (Reply input output after) was_over (from, has, early) =
       let to : PortDecl = port_named m.ports output in
-      on_port output Messages _ (and_parts _ _ is.has_ports).1 (All-flat_map_of (IsOf Messages to) (replied (clock_of m + after))
-      (reply to (clock_of m + after) (soon after is.after)) (input_items m input))
-  emits rule was_over is = tt
+      on_port output Messages _ has (All-flat_map_of (IsOf Messages to) (replied (clock_of m + after))
+      (reply to (clock_of m + after) (soon after early)) (input_items m input))
+  emits (SetValue port index value) was_over is = tt
+  emits (Ramp port index start by) was_over is = tt
+  emits (CopyValues input output numerator denominator add) was_over is = tt
 
   -- ---- what a turn puts out
 
-  module _ (rules : List Rule) (stand : AllByRecursion (λ rule. stands m.ports m.tick lasts rule ≡ true) rules) (state : List Bool)
+  module _ (rules : List Rule) (are : AllByRecursion (IsRule m.ports m.tick) rules) (state : List Bool)
       (differ : names_differ m.ports ≡ true) (p : ℕ) (lt : p < length m.ports) where
     abbrev port : PortDecl
     port = slice_index_or m.ports p no_port
 
     may_emit : (kind : PortKind) → port.kind ≡ kind → AreOf kind port (emissions m (with_state rules state) port.name)
-    may_emit kind is = emissions-each _ _ m rules state port.name each stand
+    may_emit kind is = emissions-each (IsOf kind port) (IsRule m.ports m.tick) m rules state port.name each are
       where
-        each : (rule : Rule) (was_over : Bool) → stands m.ports m.tick lasts rule ≡ true → same_name (target_of rule) port.name ≡ true
+        each : (rule : Rule) (was_over : Bool) → IsRule m.ports m.tick rule → same_name (target_of rule) port.name ≡ true
             → AreOf kind port (emitted m rule was_over)
-        each rule was_over stand same =
+        each rule was_over is_rule same =
             let it : port_named m.ports (target_of rule) ≡ port = port_named-at m.ports p (target_of rule) differ lt same in
             subst (λ kind. AreOf kind port (emitted m rule was_over)) is
-            (subst (λ (q : PortDecl). AreOf q.kind q (emitted m rule was_over)) it (emits rule was_over (asks _ _ _ rule stand)))
+            (subst (λ (q : PortDecl). AreOf q.kind q (emitted m rule was_over)) it (emits rule was_over is_rule))
 
     proper_by : (direction : Direction) (kind : PortKind) → port.kind ≡ kind
         → IsProperBlock direction kind port (clock_of m) (end_of m) (port_output rules state m direction kind port)
@@ -152,6 +128,7 @@ module _ (m : Moment) (lasts : ℕ) (ticks : 1 ≤ m.tick) where
     proper_by Output Events is = may_emit Events is
     proper_by Output Messages is = may_emit Messages is
 
+    -- whatever its inputs read, and whatever the state
     pub turn_is_proper : IsProperBlock port.direction port.kind port (clock_of m) (end_of m) (slice_index_or (turn rules state m) p [])
     unfolding turn
     turn_is_proper =
@@ -193,12 +170,11 @@ module _ (scene : Scene) (table : Table) where
         let is : IsApp (app_at scene a) = app_is scene faultless a app in
         let port : PortDecl = port_at scene a p in
         let lasts : ℕ = runs_for (span (app_at scene a)) (app_at scene a).tick in
-        let test : Rule → Bool = stands (app_at scene a).ports (app_at scene a).tick lasts in
-        let stand : AllByRecursion (λ rule. test rule ≡ true) (app_at scene a).rules =
-        recursion_from_All (λ rule. test rule ≡ true) (app_at scene a).rules (AllPass-from_list_all test (app_at scene a).rules is.rules.stand) in
+        let are : AllByRecursion (IsRule (app_at scene a).ports (app_at scene a).tick) (app_at scene a).rules =
+        are_rules (app_at scene a).ports (app_at scene a).tick lasts (app_at scene a).rules is.rules.stand in
         let end : clock scene a k + tick scene a ≡ clock scene a (k + 1) = omega arith in
         subst (λ to. IsProperBlock port.direction port.kind port (clock scene a k) to (slice_index_or (step_output scene table a k) p [])) end
-        (turn_is_proper (moment scene table a k) lasts is.tick.0 (app_at scene a).rules stand (state_before scene table a k) is.ports.differ p lt)
+        (turn_is_proper (moment scene table a k) is.tick.0 (app_at scene a).rules are (state_before scene table a k) is.ports.differ p lt)
 
     pub again-proper : IsProper scene (again scene table)
     again-proper = record {

@@ -3,7 +3,7 @@ use Rattle.std.proofs.Common.{◌≡◌, refl, ℕ, ◌<◌, ◌≤◌, true, Li
 use Rattle.std.specs.List.{AllByRecursion, list_all}
 use Rattle.std.proofs.lemmas.Bool.{and_parts, leb-true, ltb-true}
 use Rattle.index_maps.specs.Maps.{maps_index}
-use Rattle.scene_model.specs.Ports.{same_direction, same_kind}
+use Rattle.scene_model.specs.Ports.{same_direction}
 use Rattle.scene_model.specs.Rules.{after_fits, has_port, indices_stand, is_mapped, is_rate, ports_stand, rate_fits, stands}
 use Rattle.scene_model.specs.Turns.{port_named, same_name}
 use Rattle.scene_model.specs.declared.port.PortDecl.{PortDecl}
@@ -13,6 +13,7 @@ use Rattle.scene_model.specs.declared.port.Direction.{Direction}
 use Rattle.scene_model.specs.declared.port.Direction.TheVariants.{Output, Input}
 use Rattle.scene_model.specs.declared.rule.Rule.{Rule}
 use Rattle.scene_model.specs.declared.rule.Rule.TheVariants.{EmitAt, EmitEvery, Pass, SetValue, Ramp, CopyValues, When, Say, Reply}
+use Rattle.scene_model.proofs.Faultless.{of_one_kind}
 
 -- a port of this name stands there, of this direction and kind
 pub record HasPort (ports : List PortDecl) (name : List ℕ) (direction : Direction) (kind : PortKind) : Type 0 where
@@ -26,23 +27,12 @@ directions_same Input Input h = refl
 directions_same Output Input h = absurd cc
 directions_same Input Output h = absurd cc
 
-kinds_same : (x y : PortKind) → same_kind x y ≡ true → x ≡ y
-kinds_same Events Events h = refl
-kinds_same Values Values h = refl
-kinds_same Messages Messages h = refl
-kinds_same Events Values h = absurd cc
-kinds_same Events Messages h = absurd cc
-kinds_same Values Events h = absurd cc
-kinds_same Values Messages h = absurd cc
-kinds_same Messages Events h = absurd cc
-kinds_same Messages Values h = absurd cc
-
 pub port_there : (ports : List PortDecl) (name : List ℕ) (direction : Direction) (kind : PortKind) → has_port ports name direction kind ≡ true → HasPort ports name direction kind
 unfolding has_port
 port_there ports name direction kind h =
     let all = and_parts _ _ h in
     let two = and_parts _ _ all.0 in
-    record { named = two.0; is_direction = directions_same _ _ two.1; is_kind = kinds_same _ _ all.1 }
+    record { named = two.0; is_direction = directions_same _ _ two.1; is_kind = of_one_kind _ _ all.1 }
 
 -- some rank of the port of this name maps the index
 abbrev pub MapsAt : List PortDecl → List ℕ → ℕ → Type 0
