@@ -1,4 +1,4 @@
-//! Rules of an application, in text: which rules a text spells, and which is the first faulty one.
+//! Rules of an application: which rules a text spells, which is the first faulty one, and what they put out in a step.
 //!
 //! A text of rules is cut at each `;`. A piece of blanks alone is skipped and not counted.
 #![tactic(auto)]
@@ -13,3 +13,4 @@ mod words;
 pub use fault::RuleFault;
 pub use laws::{spelled_rules_stand, worked_rules};
 pub use reading::read_rules;
+pub use rule_turns::{ScriptState, turn};

@@ -1,0 +1,9 @@
+mod Ascending
+mod Conditions
+mod Emitting
+mod Giving
+mod Looking
+mod Moving
+mod Placing
+mod PlanTurns
+mod Repeating
