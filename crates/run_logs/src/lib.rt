@@ -5,7 +5,10 @@
 
 mod fields;
 mod lines;
+mod order;
 mod writing;
 
+pub use lines::row_bytes;
+pub use order::row_order;
 pub use scene_model::{Row, RowItem};
 pub use writing::{WriteFault, write_rows};

@@ -61,3 +61,14 @@ pub fn lines_of(alloc: Global, scene: &Scene, rows: &[Row]) -> Result<Vec<u8>, N
     }
     finished(writer)
 }
+
+/// The bytes of a row's line, with the line's end. The row is of a port of the scene, and a message's word is a word as
+/// rules state it.
+pub fn row_bytes(alloc: Global, scene: &Scene, row: &Row) -> Result<Vec<u8>, NoMemory>
+    requires { is_writable scene.now row.now ≡ true }
+    ensures { IfOk result (λ bytes. bytes.items ≡ line_of scene.now row.now) }
+{
+    let mut writer = line_writer(alloc);
+    push_row(&mut writer, scene, row)?;
+    finished(writer)
+}
