@@ -1,2 +1,3 @@
 pub mod CsvLines
 pub mod ItemFields
+pub mod Merging

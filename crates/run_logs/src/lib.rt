@@ -5,10 +5,13 @@
 
 mod fields;
 mod lines;
+mod merging;
 mod order;
+mod queue;
 mod writing;
 
 pub use lines::row_bytes;
+pub use merging::RowMerger;
 pub use order::row_order;
 pub use scene_model::{Row, RowItem};
 pub use writing::{WriteFault, write_rows};

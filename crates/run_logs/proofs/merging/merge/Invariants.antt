@@ -1,0 +1,15 @@
+use Rattle.std.proofs.Common.{◌≡◌, ◌≤◌, ◌+◌, map, length, vec_len, vec_capacity}
+use Rattle.std.specs.List.{flat_map}
+use Rattle.run_logs.specs.Merging.{held_by}
+use Rattle.run_logs.proofs.Merged.{IsMergedTo}
+use Rattle.run_logs.proofs.merging.merge.Given as goal
+
+abbrev pub invariant-loop-next : goal.invariant-loop-next
+invariant-loop-next l = record {
+  so_far : IsMergedTo l.least (held_by l.initial.queues) (held_by l.queues) l.initial.released.items l.released.items;
+  spare : map (λ queue. queue.spare) l.queues ≡ map (λ queue. queue.spare) l.initial.queues;
+  room : vec_len l.released + length (flat_map (λ rows. rows) (held_by l.queues)) ≤ vec_capacity l.released;
+}
+
+abbrev pub decreases-loop-next : goal.decreases-loop-next
+decreases-loop-next l = length (flat_map (λ rows. rows) (held_by l.queues))

@@ -1,0 +1,154 @@
+//! The rows of all applications, merged.
+ghost use Rattle.std.specs.Prelude.{◌≡◌, ◌≤◌, ◌<◌, ◌+◌, ◌++◌, ℕ, [], length, map, slice_set, replicate, vec_len, vec_capacity, IfOk, IfSome, OnOk, OnErr, None, true};
+ghost use Rattle.std.specs.List.{AllByRecursion, filter, flat_map};
+ghost use Rattle.music_base.specs.Numbers.{in_order};
+ghost use Rattle.scene_model.specs.Logs.{row_cmp};
+ghost use Rattle.run_logs.specs.Merging.{AreRowsOf, IsNext, begins_from, held_by, is_before, is_kept, rows_of};
+
+use crate::queue::Queue;
+use music_base::{AppId, Items, Nanos, NoMemory};
+use scene_model::Row;
+use std::alloc::Global;
+use std::marker::Model;
+
+// For so many lists of rows room is made at once.
+const LISTS: usize = 16;
+
+/// Rows of the steps that were run, held until no row can come before them.
+#[derive(Drop)]
+pub struct RowMerger {
+    queues: Vec<Queue>,
+    spare: usize,
+}
+
+impl Model for RowMerger {
+    ghost use Rattle.run_logs.specs.Merging.{AreQueues, HeldRows, held_by};
+
+    ghost Value = { HeldRows };
+
+    ghost view = { λ m. record { held = held_by m.queues.items; spare = m.spare } };
+
+    ghost invariant = { λ m. AreQueues m.spare m.queues.items };
+}
+
+// Where the next rows to be released are, and their clock in ns.
+#[derive(Clone, Copy)]
+struct Next {
+    place: usize,
+    clock: u64,
+}
+
+/// The first rows of a clock below `least`, if there are any.
+fn next_step(queues: &[Queue], least: u64) -> Option<Next>
+    ensures none { result ≡ None → (i : ℕ) → begins_from least (rows_of (held_by queues.now) i) ≡ true }
+    ensures some { IfSome result (λ next. IsNext (held_by queues.now) least next.place next.clock) }
+{
+    let mut first = None;
+    let mut bound = least;
+    for (place, queue) in queues.iter().enumerate() {
+        if let Some(clock) = queue.clock_below(bound) {
+            bound = clock;
+            first = Some(place);
+        }
+    }
+    match first {
+        Some(place) => Some(Next {
+            place,
+            clock: bound,
+        }),
+        None => None,
+    }
+}
+
+/// How many rows are held, or none where 64 bits cannot count them.
+fn count_rows(queues: &[Queue]) -> Option<usize>
+    ensures { IfSome result (λ count. count ≡ length (flat_map (λ rows. rows) (held_by queues.now))) }
+{
+    let mut count = 0usize;
+    for queue in queues {
+        count = count.checked_add(queue.count()?)?;
+    }
+    Some(count)
+}
+
+/// Moves the rows of clocks below `least` behind `released`, in row order. There is room for all rows.
+fn merge(queues: &mut [Queue], least: u64, released: &mut Vec<Row>)
+    requires rows { (b : ℕ) → AreRowsOf b (rows_of (held_by queues.old) b) }
+    requires room { vec_len released.old + length (flat_map (λ rows. rows) (held_by queues.old)) ≤ vec_capacity released.old }
+    ensures released { released.new.items ≡ released.old.items ++ in_order row_cmp (flat_map (filter (is_before least)) (held_by queues.old)) }
+    ensures kept { held_by queues.new ≡ map (filter (is_kept least)) (held_by queues.old) }
+    ensures spare { map (λ queue. queue.spare) queues.new ≡ map (λ queue. queue.spare) queues.old }
+    ensures rows { (b : ℕ) → AreRowsOf b (rows_of (held_by queues.new) b) }
+{
+    while let Some(next) = next_step(queues, least) {
+        queues[next.place].move_step(next.clock, released);
+    }
+}
+
+/// Makes room in each queue.
+fn make_room(queues: &mut [Queue]) -> Result<(), NoMemory>
+    ensures held { held_by queues.new ≡ held_by queues.old }
+    ensures room { OnOk result (AllByRecursion (λ queue. 16 ≤ queue.spare) queues.new) }
+{
+    for queue in queues {
+        queue.reserve(LISTS)?;
+    }
+    Ok(())
+}
+
+impl RowMerger {
+    /// A merger for so many applications, which holds no rows.
+    pub fn make(alloc: Global, apps: u32) -> Result<RowMerger, NoMemory>
+        ensures { IfOk result (λ merger. merger ≡ record { held = replicate apps []; spare = 0 }) }
+    {
+        let mut queues = Vec::with_capacity(alloc, apps as usize)?;
+        for _ in 0..apps {
+            queues.push(Queue::new(alloc))?;
+        }
+        Ok(RowMerger { queues, spare: 0 })
+    }
+
+    /// Makes room for one more list of rows at least, of whatever application. Where memory is wanting nothing changes.
+    pub fn reserve(&mut self) -> Result<(), NoMemory>
+        ensures room { OnOk result (1 ≤ self.new.spare) }
+        ensures held { self.new.held ≡ self.old.held }
+        ensures err { OnErr result (self.new ≡ self.old) }
+    {
+        if self.spare == 0 {
+            make_room(&mut self.queues)?;
+            self.spare = LISTS;
+        }
+        Ok(())
+    }
+
+    /// Holds the rows behind those that are held of the application. It takes no memory. The rows are the
+    /// application's own and stand in row order, and none comes before a row that is held of it.
+    pub fn admit(&mut self, app: AppId, rows: Items<Row>)
+        requires spare { 1 ≤ self.old.spare }
+        requires app { app < length self.old.held }
+        requires rows { AreRowsOf app (rows_of self.old.held app ++ rows) }
+        ensures held { self.new.held ≡ slice_set self.old.held app (rows_of self.old.held app ++ rows) }
+        ensures spare { self.new.spare + 1 ≡ self.old.spare }
+    {
+        self.spare -= 1;
+        self.queues[app.0 as usize].admit(rows);
+    }
+
+    /// Answers the held rows whose clock is below `least`, in row order, and keeps the others. Where memory is wanting
+    /// it holds what it held.
+    pub fn release(&mut self, alloc: Global, least: Nanos) -> Result<Items<Row>, NoMemory>
+        ensures released { IfOk result (λ rows. rows ≡ in_order row_cmp (flat_map (filter (is_before least)) self.old.held)) }
+        ensures kept { OnOk result (self.new.held ≡ map (filter (is_kept least)) self.old.held) }
+        ensures spare { self.new.spare ≡ self.old.spare }
+        ensures err { OnErr result (self.new ≡ self.old) }
+    {
+        if next_step(&self.queues, least.0).is_none() {
+            return Ok(Items::new(alloc));
+        }
+        // So many rows that 64 bits cannot count them have no room in memory either.
+        let count = count_rows(&self.queues).ok_or(NoMemory)?;
+        let mut released = Vec::with_capacity(alloc, count)?;
+        merge(&mut self.queues, least.0, &mut released);
+        Ok(Items::from_vec(released))
+    }
+}
