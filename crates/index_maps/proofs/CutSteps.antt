@@ -1,6 +1,6 @@
 -- Ascending intervals, one by one from the front, and one more at the end.
-use Rattle.std.proofs.Common.{◌≡◌, ℕ, suc, ◌+◌, ◌<◌, ◌≤◌, Bool, true, false, List, [], ◌∷◌, ◌++◌, length, refl, arith}
-use Rattle.std.specs.Prelude.{nat_le, nat_lt, ◌&&◌}
+use Rattle.std.proofs.Common.{◌≡◌, ℕ, zero, suc, ◌+◌, ◌<◌, ◌≤◌, true, List, [], ◌∷◌, ◌++◌, length, get_or, take, refl, arith}
+use Rattle.std.specs.Prelude.{nat_le, ◌&&◌}
 use Rattle.std.proofs.lemmas.Bool.{and_parts, leb-true, ltb-true, lt-ltb, le-leb}
 use Rattle.index_maps.specs.Cuts.{are_cuts_from, cuts_end}
 use Rattle.index_maps.specs.Intervals.{are_apart, begins_above, is_some_interval}
@@ -61,3 +61,18 @@ cuts-apart (x ∷ xs) apart =
     let parts = and_parts (is_some_interval x && begins_above x.after xs) (are_apart xs) apart in
     let front = and_parts (is_some_interval x) (begins_above x.after xs) parts.0 in
     cuts_more 0 x xs (omega arith) (ltb-true x.first x.after front.0) (cuts-apart_from x.after xs parts.1 front.1)
+
+-- ---- by places
+
+pub record AreCutsAt (low : ℕ) (intervals : List Interval) (i : ℕ) (x : Interval) : Type 0 where
+  pub before : cuts_end low (take i intervals) ≤ x.first
+  pub some : x.first < x.after
+  pub after : cuts_end low (take (i + 1) intervals) ≡ x.after
+
+pub cuts-at : (low : ℕ) (intervals : List Interval) (i : ℕ) (d : Interval) → are_cuts_from low intervals ≡ true → i < length intervals → AreCutsAt low intervals i (get_or intervals i d)
+cuts-at low [] i d are lt = absurd (omega arith)
+cuts-at low (x ∷ xs) zero d are lt = let h = cuts_first low x xs are in record { before = h.from; some = h.some; after = refl }
+cuts-at low (x ∷ xs) (suc i) d are lt =
+    let rest = cuts-at x.after xs i d (cuts_first low x xs are).later (omega arith) in
+    let e : suc i + 1 ≡ suc (i + 1) = omega arith in
+    record { before = rest.before; some = rest.some; after = rw e rest.after }

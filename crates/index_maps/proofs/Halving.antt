@@ -1,14 +1,13 @@
 -- Looking for an index by halves, among ascending intervals.
-use Rattle.std.proofs.Common.{◌≡◌, ℕ, zero, suc, ◌+◌, ◌-◌, ◌*◌, ◌/◌, ◌^◌, ◌<◌, ◌≤◌, Bool, true, false, List, [], ◌∷◌, length, get_or, refl, sym, ◌∙◌, inl, inr, arith}
-use Rattle.std.specs.Prelude.{nat_le, nat_lt, ◌&&◌, Option, Some, None, if◌then◌else◌}
+use Rattle.std.proofs.Common.{◌≡◌, ℕ, zero, suc, ◌+◌, ◌-◌, ◌*◌, ◌/◌, ◌^◌, ◌<◌, ◌≤◌, true, false, List, [], ◌∷◌, length, get_or, refl, inl, inr, arith}
+use Rattle.std.specs.Prelude.{Some, None}
 use Rattle.std.specs.List.{position, position_or_len}
-use Rattle.std.specs.declared.cmp.Ordering.{Ordering}
 use Rattle.std.specs.declared.cmp.Ordering.TheVariants.{Less, Equal, Greater}
-use Rattle.std.proofs.lemmas.Bool.{and_parts, cases_lt, leb-true, ltb-true, lt-ltb, le-ltb, lt-leb, le-leb}
+use Rattle.std.proofs.lemmas.Bool.{cases_lt, lt-ltb, le-ltb, lt-leb, le-leb}
 use Rattle.std.proofs.lemmas.List.Sums.{position_or_len_is}
 use Rattle.std.proofs.Math.Nat.{add-mul, mul-add, mul-le-mul_left, pow-suc}
 use Rattle.index_maps.specs.Cuts.{are_cuts, are_cuts_from, no_interval, side_of}
-use Rattle.index_maps.specs.Intervals.{holds, is_some_interval}
+use Rattle.index_maps.specs.Intervals.{holds}
 use Rattle.index_maps.specs.declared.interval.Interval.{Interval}
 use Rattle.index_maps.proofs.CutSteps.{cuts_first}
 
@@ -152,8 +151,8 @@ module _ (intervals : List Interval) (g low high taken more middle : ℕ) (are :
   place_found side =
       let here = is_in g (interval_at intervals middle) side in
       let e : position_or_len (holds g) intervals ≡ middle = position_or_len_is (holds g) intervals middle no_interval (omega (arith, inside))
-        (λ k before. holds_none_past g (interval_at intervals k) (omega (arith, here.0, apart 0 intervals k middle are before inside)))
-        (λ lt. rw (le-leb (interval_at intervals middle).first g here.0, lt-ltb g (interval_at intervals middle).after here.1) refl) in
+      (λ k before. holds_none_past g (interval_at intervals k) (omega (arith, here.0, apart 0 intervals k middle are before inside)))
+      (λ lt. rw (le-leb (interval_at intervals middle).first g here.0, lt-ltb g (interval_at intervals middle).after here.1) refl) in
       rw (e, lt-ltb middle (length intervals) inside) refl
 
 -- no interval is left
@@ -161,9 +160,9 @@ pub place_none : (intervals : List Interval) (g low high taken : ℕ) → IsHalv
 place_none intervals g low high taken on done =
     let n = length intervals in
     let e : position_or_len (holds g) intervals ≡ n = position_or_len_is (holds g) intervals n no_interval (omega arith)
-      (λ k short. elim (cases_lt k low) [
-        | inl before ↦ holds_none_past g (interval_at intervals k) (on.below k before)
-        | inr behind ↦ rw (lt-leb (interval_at intervals k).first g (on.above k (omega arith) short)) refl
-      ])
-      (λ lt. absurd (omega arith)) in
+    (λ k short. elim (cases_lt k low) [
+      | inl before ↦ holds_none_past g (interval_at intervals k) (on.below k before)
+      | inr behind ↦ rw (lt-leb (interval_at intervals k).first g (on.above k (omega arith) short)) refl
+    ])
+    (λ lt. absurd (omega arith)) in
     rw (e, le-ltb n n (omega arith)) refl

@@ -60,7 +60,9 @@ impl PortMap {
     {
         match self {
             PortMap::Each(maps) => lent(&maps.as_slice()[rank.0 as usize]).size(),
-            PortMap::Split { span, ranks } => RankMap::Linear(part_of(*span, *ranks, rank.0)).size(),
+            PortMap::Split { span, ranks } => RankMap::Linear(part_of(
+                *span, *ranks, rank.0,
+            )).size(),
         }
     }
 

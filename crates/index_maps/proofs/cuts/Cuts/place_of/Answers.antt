@@ -1,5 +1,5 @@
 use Rattle.std.proofs.Common.{◌-◌, arith, refl}
-use Rattle.index_maps.proofs.Halving.{back_half, few_next, front_half, opened, place_found, place_none}
+use Rattle.index_maps.proofs.Halving.{back_half, few_next, front_half, place_found, place_none}
 use Rattle.index_maps.proofs.cuts.Cuts.place_of.Goals as goal
 
 pub loop-low-preserved-in-Less : goal.loop-low-preserved-in-Less
