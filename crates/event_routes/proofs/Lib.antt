@@ -1,0 +1,4 @@
+pub mod Filling
+pub mod LookUp
+pub mod RouteLists
+pub mod Runs
