@@ -1,0 +1,12 @@
+pub mod Windows
+pub mod Latest
+pub mod InOrder
+pub mod Forgetting
+pub mod OverLines
+pub mod Numbered
+pub mod Keeping
+pub mod Answering
+pub mod Delivering
+pub mod Staying
+pub mod Repeating
+pub mod Climbing

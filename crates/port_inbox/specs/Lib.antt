@@ -1,0 +1,6 @@
+pub mod Due
+pub mod Inboxes
+pub mod Holding
+pub mod Arrivals
+pub mod Words
+pub mod Gathering

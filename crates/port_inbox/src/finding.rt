@@ -1,0 +1,208 @@
+//! The events that are due in a step: found, put in order, and given their targets.
+ghost use Rattle.std.specs.Prelude.{◌≡◌, ◌++◌, [], ◌≤◌, ℕ, IfOk, OnOk, length, map, slice_index_or};
+ghost use Rattle.std.specs.Bool.{OnTrue};
+ghost use Rattle.std.specs.List.{filter_map, flat_map};
+ghost use Rattle.music_base.specs.Numbers.{in_order};
+ghost use Rattle.music_base.specs.declared.item.Item.TheVariants.{Event};
+ghost use Rattle.event_routes.specs.Routing.{routed};
+ghost use Rattle.port_inbox.specs.Arrivals.{delivered, line_waiting, paired};
+ghost use Rattle.port_inbox.specs.Due.{falls_in};
+ghost use Rattle.port_inbox.specs.Gathering.{arrival_found, blocks_found, found, found_cmp, is_in, waiting_found};
+
+use crate::line::{Line, latency_of};
+use crate::lines::Lines;
+use crate::window::{Window, window_of};
+use crate::{Arrival, InboxLink};
+use event_routes::{Routes, Target};
+use music_base::{AppId, Event, Item, Items, Nanos, NoMemory, PortId};
+use std::alloc::{AllocError, Global};
+use std::cmp::Ordering;
+
+/// An event that is due: its time and index, the places of the application and the port that sent it, and that of its
+/// connection in the inbox.
+#[derive(Clone, Copy, Debug)]
+pub struct Found {
+    pub time: Nanos,
+    pub global: u32,
+    pub app: AppId,
+    pub port: PortId,
+    pub line: usize,
+}
+
+/// What an item gives: itself, where it is an event of the window whose index has targets.
+fn found_of(
+    item: &Item,
+    window: &Window,
+    line: usize,
+    link: &InboxLink,
+    routes: &Routes,
+) -> Option<Found>
+    ensures { result ≡ found (is_in window.now) line link.now routes.now item.now }
+{
+    match item {
+        Item::Event(event) => {
+            if !window.holds(event.time.0) {
+                return None;
+            }
+            if routes.targets(event.global).is_empty() {
+                return None;
+            }
+            Some(Found {
+                time: event.time,
+                global: event.global,
+                app: link.from_app,
+                port: link.from_port,
+                line,
+            })
+        }
+        _ => None,
+    }
+}
+
+fn gather_items(
+    items: &[Item],
+    window: &Window,
+    line: usize,
+    link: &InboxLink,
+    routes: &Routes,
+    out: &mut Vec<Found>,
+) -> Result<(), NoMemory>
+    ensures { OnOk result (out.new.items ≡ out.old.items ++ filter_map (found (is_in window.now) line link.now routes.now) items.now) }
+{
+    for item in items {
+        if let Some(found) = found_of(item, window, line, link, routes) {
+            out.push(found)?;
+        }
+    }
+    Ok(())
+}
+
+/// Appends what is due over one connection, which has the place `place` in the inbox.
+fn gather_line(
+    line: &Line,
+    place: usize,
+    routes: &Routes,
+    start: u64,
+    tick: u64,
+    step: u64,
+    out: &mut Vec<Found>,
+) -> Result<(), NoMemory>
+    requires { 1 ≤ tick }
+    ensures { OnOk result (out.new.items ≡ out.old.items ++ blocks_found (falls_in start tick step line.now.link.latency) place line.now.link routes.now line.now.kept) }
+{
+    let link = line.link();
+    let window = window_of(latency_of(&link), start, tick, step);
+    for kept in line.kept() {
+        gather_items(kept.sent_in(&window), &window, place, &link, routes, out)?;
+    }
+    Ok(())
+}
+
+/// Appends what is due over all connections, one after another.
+fn gather(
+    lines: &[Line],
+    routes: &[Routes],
+    start: u64,
+    tick: u64,
+    step: u64,
+    out: &mut Vec<Found>,
+) -> Result<(), NoMemory>
+    requires same { length lines.now ≡ length routes.now }
+    requires tick { 1 ≤ tick }
+    ensures { OnOk result (map (waiting_found routes.now) out.new.items ≡ map (waiting_found routes.now) out.old.items ++ flat_map (line_waiting start tick step) (paired lines.now routes.now)) }
+{
+    for place in 0..lines.len() {
+        gather_line(&lines[place], place, &routes[place], start, tick, step, out)?;
+    }
+    Ok(())
+}
+
+/// The order of arrivals: by time, global index, sender's place and sender's port place.
+fn compare(first: &Found, second: &Found) -> Ordering
+    ensures { result ≡ found_cmp first.now second.now }
+{
+    let by_time = first.time.0.cmp(&second.time.0);
+    let by_index = first.global.cmp(&second.global);
+    let by_app = first.app.0.cmp(&second.app.0);
+    let by_port = first.port.0.cmp(&second.port.0);
+    by_time.then(by_index.then(by_app.then(by_port)))
+}
+
+fn are_in_order(found: &[Found]) -> bool
+    ensures { OnTrue result (in_order found_cmp found.now ≡ found.now) }
+{
+    found.is_sorted_by(|first, second| compare(first, second).is_le())
+}
+
+fn sort(found: &mut Vec<Found>) -> Result<(), AllocError>
+    ensures { OnOk result (found.new.items ≡ in_order found_cmp found.old.items) }
+{
+    found.sort_by(|first, second| compare(first, second))
+}
+
+/// Puts them in order, where those that tie keep their places. Connections stand in the order of their senders, so what was
+/// gathered of one step mostly is in order.
+fn put_in_order(found: &mut Vec<Found>) -> Result<(), NoMemory>
+    ensures { OnOk result (found.new.items ≡ in_order found_cmp found.old.items) }
+{
+    if are_in_order(found) {
+        return Ok(());
+    }
+    sort(found)?;
+    Ok(())
+}
+
+/// The targets of an index in the routes of a connection.
+fn targets_at(routes: &[Routes], line: usize, global: u32) -> &[Target]
+    ensures { result.now ≡ routed (slice_index_or routes.now line []) global }
+{
+    match routes.get(line) {
+        Some(routes) => routes.targets(global),
+        None => &[],
+    }
+}
+
+fn arrival(alloc: Global, found: &Found, routes: &[Routes]) -> Result<Arrival, NoMemory>
+    ensures { IfOk result (λ arrival. arrival ≡ arrival_found routes.now found.now) }
+{
+    let targets = Vec::from_slice(alloc, targets_at(routes, found.line, found.global))?;
+    Ok(Arrival {
+        time: found.time,
+        global: found.global,
+        targets: Items::from_vec(targets),
+    })
+}
+
+fn arrivals(alloc: Global, found: &[Found], routes: &[Routes]) -> Result<Vec<Arrival>, NoMemory>
+    ensures { IfOk result (λ arrivals. arrivals.items ≡ map (arrival_found routes.now) found.now) }
+{
+    let mut arrivals = Vec::with_capacity(alloc, found.len())?;
+    for event in found {
+        arrivals.push(arrival(alloc, event, routes)?)?;
+    }
+    Ok(arrivals)
+}
+
+/// What is due in a step over these connections, in order.
+#[tactic(auto, unfolding(crate::specs::Arrivals::delivered))]
+pub fn deliver(
+    alloc: Global,
+    lines: &Lines,
+    routes: &[Routes],
+    step: u64,
+) -> Result<Vec<Arrival>, NoMemory>
+    requires { length lines.now.lines ≡ length routes.now }
+    ensures { IfOk result (λ arrivals. arrivals.items ≡ delivered step (record lines.now { routes = routes.now })) }
+{
+    let mut found = Vec::new(alloc);
+    gather(
+        lines.as_slice(),
+        routes,
+        lines.start(),
+        lines.tick(),
+        step,
+        &mut found,
+    )?;
+    put_in_order(&mut found)?;
+    arrivals(alloc, &found, routes)
+}
