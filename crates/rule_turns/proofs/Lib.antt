@@ -1,9 +1,9 @@
-mod Ascending
-mod Conditions
-mod Emitting
-mod Giving
-mod Looking
-mod Moving
-mod Placing
-mod PlanTurns
-mod Repeating
+pub mod Ascending
+pub mod Conditions
+pub mod Emitting
+pub mod Giving
+pub mod Looking
+pub mod Moving
+pub mod Placing
+pub mod PlanTurns
+pub mod Repeating

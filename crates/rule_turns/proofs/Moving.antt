@@ -83,3 +83,19 @@ length-whens_from ports (rule ∷ rest) r k = one rule (length-whens_from ports 
 pub length-whens : (ports : List PortDecl) (rules : List Rule) → length (turn_plan ports rules).whens ≡ length (opening rules)
 unfolding turn_plan
 length-whens ports rules = length-whens_from ports rules 0 0
+
+-- and a step leaves as many
+pub length-next_state : (rules : List Rule) (m : Moment) → length (next_state rules m) ≡ length (opening rules)
+length-next_state [] m = refl
+length-next_state (rule ∷ rest) m = one rule (length-next_state rest m)
+  where
+    one : (x : Rule) → length (next_state rest m) ≡ length (opening rest) → length (next_state (x ∷ rest) m) ≡ length (opening (x ∷ rest))
+    one (EmitAt _ _ _) later = later
+    one (EmitEvery _ _ _ _) later = later
+    one (Pass _ _ _ _) later = later
+    one (SetValue _ _ _) later = later
+    one (Ramp _ _ _ _) later = later
+    one (CopyValues _ _ _ _ _) later = later
+    one (When _ _ _ _ _) later = ap (λ (n : ℕ). suc n) later
+    one (Say _ _ _ _) later = later
+    one (Reply _ _ _) later = later

@@ -1,11 +1,14 @@
 -- The uses of a plan find what their rules need.
-use Rattle.std.proofs.Common.{ℕ, zero, suc, Bool, ◌≡◌, ◌+◌, ◌<◌, List, [], ◌∷◌, length, drop, map, true, refl, arith, inl, inr, Some}
+use Rattle.std.proofs.Common.{ℕ, Bool, ◌≡◌, ◌+◌, ◌<◌, List, [], ◌∷◌, length, drop, map, true, refl, inl, inr, Some}
 use Rattle.std.specs.Prelude.{slice_get, slice_index_or}
 use Rattle.std.specs.List.{AllByRecursion, list_all}
-use Rattle.std.proofs.lemmas.Bool.{and_parts, cases_Bool, cases_lt}
+use Rattle.std.proofs.lemmas.Bool.{cases_Bool, cases_lt}
 use Rattle.std.proofs.lemmas.List.{get_or-map, get_or_past}
+use Rattle.std.proofs.lemmas.List.Elements.{recursion_from_All}
+use Rattle.std.proofs.lemmas.List.Sums.{AllPass-from_list_all}
 use Rattle.music_base.specs.Items.{AreValues}
 use Rattle.music_base.proofs.Gathered.{rest_has, rest_on}
+use Rattle.music_base.proofs.Lists.{All-at}
 use Rattle.index_maps.specs.Maps.{indices}
 use Rattle.index_maps.proofs.Ascending.{indices-ascends}
 use Rattle.scene_model.specs.Ports.{has_indices}
@@ -26,9 +29,7 @@ use Rattle.rule_turns.proofs.Ascending.{ascending-values, found_value-place}
 
 -- what a test finds of each element holds of the one at a place
 list_all-at : {X : Type 0} (test : X → Bool) (xs : List X) (i : ℕ) (d : X) → list_all test xs ≡ true → i < length xs → test (slice_index_or xs i d) ≡ true
-list_all-at test [] i d all lt = absurd (omega arith)
-list_all-at test (x ∷ xs) zero d all lt = (and_parts _ _ all).0
-list_all-at test (x ∷ xs) (suc i) d all lt = list_all-at test xs i d (and_parts _ _ all).1 (omega arith)
+list_all-at test xs i d all lt = All-at (λ x. test x ≡ true) xs i d (recursion_from_All (λ x. test x ≡ true) xs (AllPass-from_list_all test xs all)) lt
 
 module _ (ports : List PortDecl) (inputs : StepOutput) (are : AreInputs ports inputs) where
   -- what a continuous input of a name reads: a value for each index that it maps

@@ -12,14 +12,15 @@ ghost use Rattle.scene_model.specs.declared.scene.Scene.{Scene};
 ghost use Rattle.rule_turns.specs.Plans.{turn_plan};
 ghost use Rattle.rule_turns.specs.Turning.{AreInputs, CanTurn, by_plan, step_in, use_over_now};
 
-/// The turn by a plan is the turn: what the uses of its plan put out in a step, and the truth values that its `when` rules
-/// have after it, of which there are as many as a state has.
+/// The turn by a plan is the turn: what the uses of the plan put out in a step, and the truth values that its `when` rules
+/// have after it. Of these there are always as many as the opening state has.
 pub fn plans_turn()
     ensures outputs { (rules : List Rule) (state : List Bool) (m : Moment) → CanTurn m.ports m.tick rules → AreInputs m.ports m.inputs →
         by_plan (step_in rules state m) m.ports (turn_plan m.ports rules).ports ≡ turn rules state m }
     ensures states { (rules : List Rule) (m : Moment) → length m.inputs ≡ length m.ports →
         map (use_over_now rules m.inputs) (turn_plan m.ports rules).whens ≡ next_state rules m }
     ensures whens { (ports : List PortDecl) (rules : List Rule) → length (turn_plan ports rules).whens ≡ length (opening rules) }
+    ensures counted { (rules : List Rule) (m : Moment) → length (next_state rules m) ≡ length (opening rules) }
 {}
 
 /// An application without a fault can turn.
