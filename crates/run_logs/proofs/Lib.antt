@@ -1,6 +1,7 @@
 pub mod PlainFields
 pub mod PlainTexts
 pub mod Batches
+pub mod ReadyLines
 pub mod Steps
 pub mod Nexts
 pub mod Merges

@@ -1,3 +1,4 @@
 pub mod CsvLines
 pub mod ItemFields
 pub mod Merging
+pub mod QuickLines

@@ -1,5 +1,5 @@
 //! The fields of a row.
-ghost use Rattle.std.specs.Prelude.{◌≡◌, ◌++◌, OnOk, Some, true};
+ghost use Rattle.std.specs.Prelude.{◌≡◌, ◌≤◌, ◌++◌, length, OnOk, Some, true};
 ghost use Rattle.std.specs.Fmt.{decimal, signed_decimal};
 ghost use Rattle.std.specs.List.{list_all};
 ghost use Rattle.music_base.specs.Names.{is_in_words};
@@ -15,23 +15,25 @@ use music_base::{Name, NoMemory};
 use scene_model::{Row, RowItem, Scene};
 
 /// A number in decimal digits.
-fn digits(buffer: &mut Buffer, number: u64) -> &[u8]
+pub fn digits(buffer: &mut Buffer, number: u64) -> &[u8]
     ensures text { result.now ≡ decimal number }
+    ensures short { length result.now ≤ 20 }
     ensures plain { list_all is_in_words result.now ≡ true }
 {
     buffer.format(number).as_bytes()
 }
 
 /// A number in decimal digits, behind a '-' where it is negative.
-fn signed_digits(buffer: &mut Buffer, number: i64) -> &[u8]
+pub fn signed_digits(buffer: &mut Buffer, number: i64) -> &[u8]
     ensures text { result.now ≡ signed_decimal number }
+    ensures short { length result.now ≤ 20 }
     ensures plain { list_all is_in_words result.now ≡ true }
 {
     buffer.format(number).as_bytes()
 }
 
 /// The name of an application or a port.
-fn name_field(name: &Name) -> &[u8]
+pub fn name_field(name: &Name) -> &[u8]
     ensures text { result.now ≡ name.now }
     ensures plain { list_all is_in_words result.now ≡ true }
 {

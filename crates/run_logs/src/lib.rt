@@ -7,11 +7,17 @@ mod fields;
 mod lines;
 mod merging;
 mod order;
+mod page;
 mod queue;
+mod quick_lines;
+mod ranks;
 mod writing;
 
 pub use lines::row_bytes;
 pub use merging::RowMerger;
 pub use order::row_order;
+pub use page::Page;
+pub use quick_lines::{push_event, push_ready, push_value};
+pub use ranks::RankFields;
 pub use scene_model::{Row, RowItem};
 pub use writing::{WriteFault, write_rows};

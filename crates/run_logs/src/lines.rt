@@ -50,6 +50,19 @@ fn finished(writer: Writer<Vec<u8>>) -> Result<Vec<u8>, NoMemory>
     }
 }
 
+/// The text of a record of plain fields, without the end of its line.
+pub fn record_of(alloc: Global, fields: &[&[u8]]) -> Result<Vec<u8>, NoMemory>
+    requires plain { are_plain (map (λ field. field.now) fields.now) ≡ true }
+    requires two { 2 ≤ length fields.now }
+    ensures { IfOk result (λ text. text.items ≡ join_with_byte comma (map (λ field. field.now) fields.now)) }
+{
+    let mut writer = line_writer(alloc);
+    push_line(&mut writer, fields)?;
+    let mut text = finished(writer)?;
+    let _line_end = text.pop();
+    Ok(text)
+}
+
 /// The lines of the rows.
 pub fn lines_of(alloc: Global, scene: &Scene, rows: &[Row]) -> Result<Vec<u8>, NoMemory>
     requires { list_all (is_writable scene.now) rows.now ≡ true }

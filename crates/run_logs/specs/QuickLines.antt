@@ -1,0 +1,36 @@
+-- Lines made of fields that stand ready and of numbers.
+use Rattle.std.specs.Prelude.{◌≡◌, ℕ, List, [], ◌∷◌, ◌++◌, ℤ, codes}
+use Rattle.std.specs.Fmt.{decimal, signed_decimal}
+use Rattle.std.specs.List.{join_with_byte}
+use Rattle.music_base.specs.Lines.{line_end}
+use Rattle.scene_model.specs.Logs.{comma}
+use Rattle.scene_model.specs.Scenes.{app_at, port_at}
+use Rattle.scene_model.specs.declared.port.PortKind.{PortKind}
+use Rattle.scene_model.specs.declared.port.PortKind.TheVariants.{Events, Values, Messages}
+use Rattle.scene_model.specs.declared.scene.Scene.{Scene}
+use Rattle.run_logs.specs.declared.ranks.RankFields.{RankFields}
+
+-- the field of a port's kind
+abbrev pub kind_name : PortKind → List ℕ
+kind_name Events = codes "event"
+kind_name Values = codes "cont"
+kind_name Messages = codes "message"
+
+-- the fields of application, port, kind and rank, with the commas around them
+abbrev pub rank_fields : Scene → ℕ → ℕ → ℕ → List ℕ
+rank_fields scene app port rank =
+    join_with_byte comma ([] ∷ (app_at scene app).name ∷ (port_at scene app port).name ∷ kind_name (port_at scene app port).kind ∷ decimal rank ∷ [] ∷ [])
+
+-- they stand ready
+pub record AreRankFields (scene : Scene) (app port rank : ℕ) (fields : RankFields) : Type 0 where
+  pub kind : fields.kind ≡ (port_at scene app port).kind
+  pub text : fields.text.items ≡ rank_fields scene app port rank
+
+-- the line of an event and the line of a value, where `ready` stands between the clock and the local place
+abbrev pub event_line : ℕ → List ℕ → ℕ → ℕ → ℕ → List ℕ
+event_line clock ready local global time =
+    decimal clock ++ ready ++ decimal local ++ comma ∷ decimal global ++ comma ∷ decimal time ++ comma ∷ line_end ∷ []
+
+abbrev pub value_line : ℕ → List ℕ → ℕ → ℕ → ℤ → List ℕ
+value_line clock ready local global value =
+    decimal clock ++ ready ++ decimal local ++ comma ∷ decimal global ++ comma ∷ comma ∷ signed_decimal value ++ line_end ∷ []
