@@ -67,7 +67,7 @@ impl Settings {
 impl Settings {
     /// Appends a setting of a new name, or gives a name that stands among them this value. The answer is whether the name
     /// is new. Where memory is wanting the settings stay as they were.
-    pub(crate) fn insert(&mut self, name: Name, value: Word) -> Result<bool, NoMemory>
+    pub fn insert(&mut self, name: Name, value: Word) -> Result<bool, NoMemory>
         requires { is_value value ≡ true }
         ensures fresh { IfOk result (λ fresh. fresh ≡ not (is_some (value_of self.old name))) }
         ensures entries { OnOk result (self.new ≡ insert_entry same_name self.old name value) }
