@@ -10,3 +10,8 @@ pub mod Delivering
 pub mod Staying
 pub mod Repeating
 pub mod Climbing
+pub mod Between
+pub mod Listing
+pub mod Placing
+pub mod Sampling
+pub mod Weights

@@ -4,3 +4,5 @@ pub mod Holding
 pub mod Arrivals
 pub mod Words
 pub mod Gathering
+pub mod KeptSamples
+pub mod Samples

@@ -7,21 +7,31 @@
 #![tactic(auto)]
 
 mod arrivals;
+mod cont_inbox;
+mod cont_laws;
+#[cfg(test)]
+mod cont_tests;
 mod event_inbox;
 #[cfg(test)]
 mod event_tests;
 mod finding;
 mod kept;
+mod kept_sample;
+mod kept_samples;
 mod laws;
 mod line;
 mod lines;
 mod message_inbox;
 #[cfg(test)]
 mod message_tests;
+mod parts;
+mod points;
 mod saying;
 mod window;
 
 pub use arrivals::{Arrival, Heard, InboxLink, inbox_link_of};
+pub use cont_inbox::ContInbox;
+pub use cont_laws::{samples_hold, worked_reads};
 pub use event_inbox::EventInbox;
 pub use laws::{
     blocks_left_by_number, inboxes_answer, inboxes_hold, inboxes_stay, made_inboxes_hold,
