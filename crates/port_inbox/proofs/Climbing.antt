@@ -14,7 +14,6 @@ use denote.Bor.{Bor}
 use Rattle.music_base.specs.Items.{time_of}
 use Rattle.music_base.specs.declared.item.Item.{Item}
 use Rattle.music_base.specs.declared.item.Item.TheVariants.{Event, Message, Value}
-use Rattle.event_routes.specs.Routing.{Route}
 use Rattle.port_inbox.specs.Gathering.{comes_in, found, is_in, told}
 use Rattle.port_inbox.specs.declared.arrivals.InboxLink.{InboxLink}
 use Rattle.port_inbox.specs.declared.window.Window.{Window}
@@ -69,21 +68,21 @@ part_is window items before count first second =
 
 -- ---- what is found there
 
-not_found : (window : Window) (line : ℕ) (link : InboxLink) (routes : List Route) (item : Item) → comes_in window item ≡ false → found (is_in window) line link routes item ≡ None
-not_found window line link routes (Event e) h = rw h refl
-not_found window line link routes (Message m) h = refl
-not_found window line link routes (Value global value) h = refl
+not_found : (window : Window) (line : ℕ) (link : InboxLink) (item : Item) → comes_in window item ≡ false → found (is_in window) line link item ≡ None
+not_found window line link (Event e) h = rw h refl
+not_found window line link (Message m) h = refl
+not_found window line link (Value global value) h = refl
 
 not_told : (window : Window) (link : InboxLink) (item : Item) → comes_in window item ≡ false → told (is_in window) link item ≡ None
 not_told window link (Event e) h = refl
 not_told window link (Message m) h = rw h refl
 not_told window link (Value global value) h = refl
 
-pub all_found : (window : Window) (line : ℕ) (link : InboxLink) (routes : List Route) (part items : List Item) → filter (comes_in window) part ≡ filter (comes_in window) items
-    → filter_map (found (is_in window) line link routes) part ≡ filter_map (found (is_in window) line link routes) items
-all_found window line link routes part items same =
-    sym (filter_map-filter (comes_in window) (found (is_in window) line link routes) (not_found window line link routes) part)
-    ∙ ap (filter_map (found (is_in window) line link routes)) same ∙ filter_map-filter (comes_in window) (found (is_in window) line link routes) (not_found window line link routes) items
+pub all_found : (window : Window) (line : ℕ) (link : InboxLink) (part items : List Item) → filter (comes_in window) part ≡ filter (comes_in window) items
+    → filter_map (found (is_in window) line link) part ≡ filter_map (found (is_in window) line link) items
+all_found window line link part items same =
+    sym (filter_map-filter (comes_in window) (found (is_in window) line link) (not_found window line link) part)
+    ∙ ap (filter_map (found (is_in window) line link)) same ∙ filter_map-filter (comes_in window) (found (is_in window) line link) (not_found window line link) items
 
 pub all_told : (window : Window) (link : InboxLink) (part items : List Item) → filter (comes_in window) part ≡ filter (comes_in window) items
     → filter_map (told (is_in window) link) part ≡ filter_map (told (is_in window) link) items

@@ -8,7 +8,6 @@ use Rattle.music_base.specs.declared.item.Block.{Block}
 use Rattle.music_base.specs.declared.item.Item.{Item}
 use Rattle.music_base.specs.declared.item.Item.TheVariants.{Event, Message, Value}
 use Rattle.scene_model.specs.Due.{is_step_from}
-use Rattle.event_routes.specs.Routing.{Route}
 use Rattle.port_inbox.specs.Due.{AreShort, falls_from}
 use Rattle.port_inbox.specs.Gathering.{AreAllShort, comes_from, found, told}
 use Rattle.port_inbox.specs.Inboxes.{forgotten}
@@ -44,18 +43,18 @@ forgot link admitted kept left room n room' m start tick step e same len len' wi
 -- ---- what is found
 
 module _ (p q : ℕ → Bool) (at : (t : ℕ) → t ≤ 10_000_000_000_000_000 → p t ≡ q t) where
-  module _ (line : ℕ) (link : InboxLink) (routes : List Route) where
-    found_is : (item : Item) → time_of item ≤ 10_000_000_000_000_000 → found p line link routes item ≡ found q line link routes item
+  module _ (line : ℕ) (link : InboxLink) where
+    found_is : (item : Item) → time_of item ≤ 10_000_000_000_000_000 → found p line link item ≡ found q line link item
     found_is (Event e) short = rw (at e.time short) refl
     found_is (Message m) short = refl
     found_is (Value global value) short = refl
 
-    items_found : (items : List Item) → AreShort items → filter_map (found p line link routes) items ≡ filter_map (found q line link routes) items
+    items_found : (items : List Item) → AreShort items → filter_map (found p line link) items ≡ filter_map (found q line link) items
     items_found [] short = refl
     items_found (item ∷ items) short = rw (found_is item short.0, items_found items short.1) refl
 
     pub found_same : (blocks : List Block) → AreAllShort blocks
-        → flat_map (λ (block : Block). filter_map (found p line link routes) block.items) blocks ≡ flat_map (λ (block : Block). filter_map (found q line link routes) block.items) blocks
+        → flat_map (λ (block : Block). filter_map (found p line link) block.items) blocks ≡ flat_map (λ (block : Block). filter_map (found q line link) block.items) blocks
     found_same [] short = refl
     found_same (block ∷ blocks) short = rw (items_found block.items short.0, found_same blocks short.1) refl
 

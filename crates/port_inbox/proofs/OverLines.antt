@@ -1,19 +1,24 @@
 -- What is found over all connections is what waits there.
-use Rattle.std.proofs.Common.{ℕ, zero, suc, ◌<◌, ◌≡◌, refl, sym, ◌∙◌, ap, arith, List, [], ◌∷◌, length, get_or, map, Bool, true, false, cond, not, ◌&&◌, Option, Some, None}
-use Rattle.std.specs.List.{cons_option, filter_map, flat_map}
+use Rattle.std.proofs.Common.{inl, inr, ℕ, zero, suc, ◌<◌, ◌≡◌, refl, sym, ◌∙◌, ap, arith, List, [], ◌∷◌, length, get_or, map, Bool, true, false, cond, not, ◌&&◌, Option, Some, None}
+use Rattle.std.specs.List.{cons_option, filter, filter_map, flat_map}
+use Rattle.std.specs.Cmp.{IsTotalOrder}
+use Rattle.std.specs.declared.cmp.Ordering.{Ordering}
+use Rattle.std.proofs.lemmas.Bool.{cases_Bool}
+use Rattle.std.proofs.lemmas.Cmp.{nat_cmp_total, on_total, then_total}
+use Rattle.std.proofs.lemmas.List.Elements.{filter_map-append}
 use Rattle.std.proofs.lemmas.List.{map-append}
 use Rattle.music_base.specs.declared.item.Block.{Block}
 use Rattle.music_base.specs.declared.item.Item.{Item}
 use Rattle.music_base.specs.declared.item.Item.TheVariants.{Event, Message, Value}
 use Rattle.music_base.proofs.Lists.{map-map}
-use Rattle.music_base.proofs.Sorting.{in_order_map}
+use Rattle.music_base.proofs.Sorting.{filter-in_order, in_order_map}
 use Rattle.music_base.specs.Numbers.{in_order}
 use Rattle.scene_model.specs.Tables.{Sent, sent_cmp}
 use Rattle.event_routes.specs.Routing.{routed}
 use Rattle.event_routes.specs.Routing.{Route}
 use Rattle.port_inbox.specs.Arrivals.{EventLine, Waiting, delivered, line_waiting, no_targets, paired, waiting, waiting_cmp}
 use Rattle.port_inbox.specs.Due.{falls_in}
-use Rattle.port_inbox.specs.Gathering.{arrival_found, blocks_found, blocks_told, found, found_cmp, said_cmp, sent_said, told, waiting_found}
+use Rattle.port_inbox.specs.Gathering.{arrival_found, blocks_found, blocks_told, found, found_cmp, said_cmp, sent_said, targets_found, told, waiting_found}
 use Rattle.port_inbox.specs.Holding.{heard_of}
 use Rattle.port_inbox.specs.Inboxes.{Inbox, Line}
 use Rattle.port_inbox.specs.Words.{line_said, said, words_delivered}
@@ -37,25 +42,33 @@ flat_map-through f g h each (x ∷ xs) = rw (map-append, each x, flat_map-throug
 -- ---- events
 
 module _ (start tick step place : ℕ) (routes : List (List Route)) (link : InboxLink) (own : List Route) (at : get_or routes place [] ≡ own) where
-  one_found : (item : Item) (ys : List Found) (zs : List Waiting) → map (waiting_found routes) ys ≡ zs
-      → map (waiting_found routes) (cons_option (found (falls_in start tick step link.latency) place link own item) ys) ≡ cons_option (waiting start tick step link own item) zs
+  one_found : (item : Item) (ys : List Found) (zs : List Waiting) → filter_map (waiting_found routes) ys ≡ zs
+      → filter_map (waiting_found routes) (cons_option (found (falls_in start tick step link.latency) place link item) ys) ≡ cons_option (waiting start tick step link own item) zs
   unfolding waiting
-  one_found (Event e) ys zs rest = go (falls_in start tick step link.latency e.time && not (no_targets (routed own e.global)))
+  one_found (Event e) ys zs rest = go (falls_in start tick step link.latency e.time) (no_targets (routed own e.global)) refl
     where
-      go : (b : Bool) → map (waiting_found routes) (cons_option (cond b (Some (record { time = e.time; global = e.global; app = link.from_app; port = link.from_port; line = place })) None) ys)
-          ≡ cons_option (cond b (Some (record { arrival = record { time = e.time; global = e.global; targets = routed own e.global }; app = link.from_app; port = link.from_port })) None) zs
-      go true = rw (at, rest) refl
-      go false = rest
+      go : (b t : Bool) → no_targets (routed own e.global) ≡ t
+          → filter_map (waiting_found routes) (cons_option (cond b (Some (record { time = e.time; global = e.global; app = link.from_app; port = link.from_port; line = place })) None) ys)
+          ≡ cons_option (cond (b && not t) (Some (record { arrival = record { time = e.time; global = e.global; targets = routed own e.global }; app = link.from_app; port = link.from_port })) None) zs
+      go true true h = rw (at, h) rest
+      go true false h = rw (at, h, rest) refl
+      go false t h = rest
   one_found (Message m) ys zs rest = rest
   one_found (Value global value) ys zs rest = rest
 
+  items_found : (items : List Item) → filter_map (waiting_found routes) (filter_map (found (falls_in start tick step link.latency) place link) items) ≡ filter_map (waiting start tick step link own) items
+  items_found [] = refl
+  items_found (item ∷ items) =
+      one_found item (filter_map (found (falls_in start tick step link.latency) place link) items) (filter_map (waiting start tick step link own) items) (items_found items)
+
 pub line_found : (start tick step place : ℕ) (routes : List (List Route)) (l : EventLine) → get_or routes place [] ≡ l.routes
-    → map (waiting_found routes) (blocks_found (falls_in start tick step l.line.link.latency) place l.line.link l.routes l.line.kept) ≡ line_waiting start tick step l
-line_found start tick step place routes l at =
-    flat_map-through (waiting_found routes) (λ (block : Block). filter_map (found (falls_in start tick step l.line.link.latency) place l.line.link l.routes) block.items)
-    (λ (block : Block). filter_map (waiting start tick step l.line.link l.routes) block.items)
-    (λ (block : Block). filter_map-through (waiting_found routes) (found (falls_in start tick step l.line.link.latency) place l.line.link l.routes) (waiting start tick step l.line.link l.routes)
-    (one_found start tick step place routes l.line.link l.routes at) block.items) l.line.kept
+    → filter_map (waiting_found routes) (blocks_found (falls_in start tick step l.line.link.latency) place l.line.link l.line.kept) ≡ line_waiting start tick step l
+line_found start tick step place routes l at = over l.line.kept
+  where
+    over : (blocks : List Block) → filter_map (waiting_found routes) (blocks_found (falls_in start tick step l.line.link.latency) place l.line.link blocks)
+        ≡ flat_map (λ (block : Block). filter_map (waiting start tick step l.line.link l.routes) block.items) blocks
+    over [] = refl
+    over (block ∷ blocks) = rw (filter_map-append, items_found start tick step place routes l.line.link l.routes at block.items, over blocks) refl
 
 -- the pair at a place
 pub paired_get : (lines : List Line) (routes : List (List Route)) (i : ℕ) (d : Line) (e : EventLine) → i < length lines → i < length routes
@@ -91,15 +104,45 @@ line_told start tick step line =
 
 -- ---- the whole inbox
 
+-- a function that keeps the order, and leaves out what fails a test
+in_order-filter_map : {X Y : Type 0} (f : X → Y) (test : X → Bool) (g : X → Option Y) (cmp : X → X → Ordering) (other : Y → Y → Ordering) → IsTotalOrder cmp
+    → ((x : X) → g x ≡ cond (test x) None (Some (f x))) → ((x y : X) → other (f x) (f y) ≡ cmp x y) → (xs : List X) → in_order other (filter_map g xs) ≡ filter_map g (in_order cmp xs)
+in_order-filter_map {X} {Y} f test g cmp other total is same xs =
+    ap (in_order other) (passing xs) ∙ in_order_map f cmp other same (filter (λ x. not (test x)) xs) ∙ ap (map f) (sym (filter-in_order cmp total (λ x. not (test x)) xs)) ∙ sym (passing (in_order cmp xs))
+  where
+    passing : (ys : List X) → filter_map g ys ≡ map f (filter (λ x. not (test x)) ys)
+    passing [] = refl
+    passing (y ∷ ys) = rw (is y) (go (test y) (passing ys))
+      where
+        go : (b : Bool) → filter_map g ys ≡ map f (filter (λ x. not (test x)) ys)
+            → cons_option (cond b None (Some (f y))) (filter_map g ys) ≡ map f (cond (not b) (y ∷ filter (λ x. not (test x)) ys) (filter (λ x. not (test x)) ys))
+        go true rest = rest
+        go false rest = ap (λ zs. f y ∷ zs) rest
+
+pub found_cmp-total : IsTotalOrder found_cmp
+found_cmp-total =
+    then_total (on_total (λ (f : Found). f.time) nat_cmp_total) (then_total (on_total (λ (f : Found). f.global) nat_cmp_total) (then_total (on_total (λ (f : Found). f.app) nat_cmp_total) (on_total (λ (f : Found). f.port) nat_cmp_total)))
+
+-- without its sender, what waits is what arrives
+arrivals_found : (routes : List (List Route)) (fs : List Found) → map (λ (w : Waiting). w.arrival) (filter_map (waiting_found routes) fs) ≡ filter_map (arrival_found routes) fs
+arrivals_found routes [] = refl
+arrivals_found routes (f ∷ fs) = elim (cases_Bool (no_targets (targets_found routes f))) [
+  | inl none ↦ rw none (arrivals_found routes fs)
+  | inr some ↦ rw (some, arrivals_found routes fs) refl
+]
+
 -- what was found on all connections, in order and with its targets, is what the inbox delivers
-pub delivered_is : (step : ℕ) (inbox : Inbox) (all sorted : List Found) → map (waiting_found inbox.routes) all ≡ flat_map (line_waiting inbox.start inbox.tick step) (paired inbox.lines inbox.routes)
-    → sorted ≡ in_order found_cmp all → map (arrival_found inbox.routes) sorted ≡ delivered step inbox
+pub delivered_is : (step : ℕ) (inbox : Inbox) (all sorted : List Found) → filter_map (waiting_found inbox.routes) all ≡ flat_map (line_waiting inbox.start inbox.tick step) (paired inbox.lines inbox.routes)
+    → sorted ≡ in_order found_cmp all → filter_map (arrival_found inbox.routes) sorted ≡ delivered step inbox
 unfolding delivered
 delivered_is step inbox all sorted same is =
-    ap (map (arrival_found inbox.routes)) is
-    ∙ sym (map-map (λ (w : Waiting). w.arrival) (waiting_found inbox.routes) (in_order found_cmp all))
-    ∙ ap (map (λ (w : Waiting). w.arrival)) (sym (in_order_map (waiting_found inbox.routes) found_cmp waiting_cmp (λ x y. refl) all))
+    ap (filter_map (arrival_found inbox.routes)) is
+    ∙ sym (arrivals_found inbox.routes (in_order found_cmp all))
+    ∙ ap (map (λ (w : Waiting). w.arrival)) (sym (in_order-filter_map with_targets (λ f. no_targets (targets_found inbox.routes f)) (waiting_found inbox.routes) found_cmp waiting_cmp found_cmp-total (λ f. refl) (λ x y. refl) all))
     ∙ ap (λ ws. map (λ (w : Waiting). w.arrival) (in_order waiting_cmp ws)) same
+  where
+    with_targets : Found → Waiting
+    with_targets f = record { arrival = record { time = f.time; global = f.global; targets = targets_found inbox.routes f }; app = f.app; port = f.port }
 
 -- and what was said on all of them, in order, are the words that it delivers
 pub words_are : (step : ℕ) (inbox : Inbox) (all sorted : List Said) → map sent_said all ≡ flat_map (line_said inbox.start inbox.tick step) inbox.lines

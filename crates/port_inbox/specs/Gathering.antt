@@ -1,6 +1,6 @@
 -- How what is due is found in kept blocks, as the code does it: times are compared, and what is found is put in order before
 -- its targets are looked up.
-use Rattle.std.specs.Prelude.{ℕ, max, Bool, false, not, ◌&&◌, nat_le, nat_lt, if◌then◌else◌, List, [], ◌∷◌, slice_index_or, Option, None, Some}
+use Rattle.std.specs.Prelude.{ℕ, max, Bool, false, ◌&&◌, nat_le, nat_lt, if◌then◌else◌, List, [], ◌∷◌, slice_index_or, Option, None, Some}
 use Rattle.std.specs.List.{AllByRecursion, filter_map, flat_map}
 use Rattle.std.specs.declared.cmp.Ordering.{Ordering}
 use Rattle.std.specs.Ordering.{ordering_then, nat_cmp}
@@ -8,8 +8,8 @@ use Rattle.music_base.specs.declared.item.Block.{Block}
 use Rattle.music_base.specs.declared.item.Item.{Item}
 use Rattle.music_base.specs.declared.item.Item.TheVariants.{Event, Message, Value}
 use Rattle.scene_model.specs.Tables.{Sent}
-use Rattle.event_routes.specs.Routing.{routed}
-use Rattle.event_routes.specs.Routing.{Route}
+use Rattle.event_routes.specs.Routing.{Route, routed}
+use Rattle.event_routes.specs.declared.target.Target.{Target}
 use Rattle.port_inbox.specs.Arrivals.{Waiting, no_targets}
 use Rattle.port_inbox.specs.Due.{AreShort}
 use Rattle.port_inbox.specs.declared.arrivals.Arrival.{Arrival}
@@ -60,16 +60,16 @@ AreAllShort = AllByRecursion (λ (block : Block). AreShort block.items)
 
 -- ---- events
 
--- an event whose time passes the test and whose index has targets, with its connection's place in the inbox
-abbrev pub found : (ℕ → Bool) → ℕ → InboxLink → List Route → Item → Option Found
-found test line link routes (Event e) =
-    if test e.time && not (no_targets (routed routes e.global))
+-- an event whose time passes the test, with the place of its connection in the inbox
+abbrev pub found : (ℕ → Bool) → ℕ → InboxLink → Item → Option Found
+found test line link (Event e) =
+    if test e.time
     then Some (record { time = e.time; global = e.global; app = link.from_app; port = link.from_port; line = line })
     else None
-found test line link routes _ = None
+found test line link _ = None
 
-abbrev pub blocks_found : (ℕ → Bool) → ℕ → InboxLink → List Route → List Block → List Found
-blocks_found test line link routes blocks = flat_map (λ (block : Block). filter_map (found test line link routes) block.items) blocks
+abbrev pub blocks_found : (ℕ → Bool) → ℕ → InboxLink → List Block → List Found
+blocks_found test line link blocks = flat_map (λ (block : Block). filter_map (found test line link) block.items) blocks
 
 -- by time, global index, sender's place and sender's port place
 abbrev pub found_cmp : Found → Found → Ordering
@@ -78,12 +78,23 @@ found_cmp x y =
     (ordering_then (nat_cmp x.global y.global)
     (ordering_then (nat_cmp x.app y.app) (nat_cmp x.port y.port)))
 
--- with the targets that the routes of its connection have
-abbrev pub arrival_found : List (List Route) → Found → Arrival
-arrival_found routes f = record { time = f.time; global = f.global; targets = routed (slice_index_or routes f.line []) f.global }
+-- the targets that the routes of its connection have
+abbrev pub targets_found : List (List Route) → Found → List Target
+targets_found routes f = routed (slice_index_or routes f.line []) f.global
 
-abbrev pub waiting_found : List (List Route) → Found → Waiting
-waiting_found routes f = record { arrival = arrival_found routes f; app = f.app; port = f.port }
+-- the arrival that it makes, where there are any
+abbrev pub arrival_found : List (List Route) → Found → Option Arrival
+arrival_found routes f =
+    if no_targets (targets_found routes f)
+    then None
+    else Some (record { time = f.time; global = f.global; targets = targets_found routes f })
+
+-- the same with the places of its sender
+abbrev pub waiting_found : List (List Route) → Found → Option Waiting
+waiting_found routes f =
+    if no_targets (targets_found routes f)
+    then None
+    else Some (record { arrival = record { time = f.time; global = f.global; targets = targets_found routes f }; app = f.app; port = f.port })
 
 -- ---- messages
 

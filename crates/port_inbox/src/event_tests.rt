@@ -14,6 +14,7 @@ use std::alloc::Global;
 const SHORT: u64 = 10_000_000_000_000_000;
 
 /// A connection: the places of its sender, its latency, and the events of its first block by time and index.
+#[derive(Clone, Copy)]
 struct Came {
     app: u32,
     port: u32,
@@ -29,6 +30,13 @@ struct Case {
     came: &'static [Came],
     delivered: &'static [&'static [(u64, u32)]],
 }
+
+const ONE: Came = Came {
+    app: 0,
+    port: 0,
+    latency: 0,
+    events: &[(5, 1), (15, 2)],
+};
 
 const CASES: &[Case] = &[
     // What comes before the start with its latency is due in no step.
@@ -111,7 +119,14 @@ const CASES: &[Case] = &[
         }],
         delivered: &[&[(2, 3)]],
     },
-    // The last step of 64 bits: no sum wraps round.
+    // As many connections as an input may have.
+    Case {
+        start: 0,
+        tick: 10,
+        came: &[ONE; 64],
+        delivered: &[&[(5, 1); 64], &[(15, 2); 64]],
+    },
+    // The greatest start and tick.
     Case {
         start: 1_000_000_000_000_000,
         tick: 1_000_000_000_000,
@@ -192,7 +207,7 @@ fn routes_of_each(alloc: Global, count: usize) -> Result<Vec<Routes>, NoMemory>
     ensures { IfOk result (λ routes. length routes.items ≡ count) }
 {
     let mut all = Vec::new(alloc);
-    for _place in 0..count {
+    'each: while all.len() < count {
         all.push(routes(alloc)?)?;
     }
     Ok(all)
@@ -272,6 +287,26 @@ fn kept_after(alloc: Global, case: &Case, steps: &[u64]) -> Result<Option<usize>
 fn what_is_due_is_delivered_in_order(rt: HostRuntime) {
     for (at, case) in CASES.iter().enumerate() {
         assert!(rt; is_right(rt.alloc(), case) == Ok(true), "at case {at}");
+    }
+}
+
+/// Whether room for so many blocks of the first connection is made, and nothing else changes.
+fn makes_room(alloc: Global, blocks: u64) -> Result<bool, NoMemory> {
+    let Some(mut inbox) = fed(alloc, 0, 10, &[ONE])? else {
+        return Ok(false);
+    };
+    if inbox.connections() == 0 || blocks > 1_000_001 {
+        return Ok(false);
+    }
+    inbox.reserve_many(0, blocks)?;
+    let same = inbox.kept(0) == 1 && inbox.admitted(0) == 1;
+    Ok(delivers(alloc, &mut inbox, 0, &[(5, 1)])? && same)
+}
+
+#[test]
+fn room_is_made(rt: HostRuntime) {
+    for blocks in [0, 1, 1_000, 1_000_001] {
+        assert!(rt; makes_room(rt.alloc(), blocks) == Ok(true), "for {blocks}");
     }
 }
 

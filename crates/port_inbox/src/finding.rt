@@ -1,10 +1,9 @@
 //! The events that are due in a step: found, put in order, and given their targets.
-ghost use Rattle.std.specs.Prelude.{◌≡◌, ◌++◌, [], ◌≤◌, ℕ, IfOk, OnOk, length, map, slice_index_or};
+ghost use Rattle.std.specs.Prelude.{◌≡◌, ◌++◌, [], ◌≤◌, List, IfOk, OnOk, length, slice_index_or};
 ghost use Rattle.std.specs.Bool.{OnTrue};
 ghost use Rattle.std.specs.List.{filter_map, flat_map};
 ghost use Rattle.music_base.specs.Numbers.{in_order};
-ghost use Rattle.music_base.specs.declared.item.Item.TheVariants.{Event};
-ghost use Rattle.event_routes.specs.Routing.{routed};
+ghost use Rattle.event_routes.specs.Routing.{Route, routed};
 ghost use Rattle.port_inbox.specs.Arrivals.{delivered, line_waiting, paired};
 ghost use Rattle.port_inbox.specs.Due.{falls_in};
 ghost use Rattle.port_inbox.specs.Gathering.{arrival_found, blocks_found, found, found_cmp, is_in, waiting_found};
@@ -14,7 +13,7 @@ use crate::lines::Lines;
 use crate::window::{Window, window_of};
 use crate::{Arrival, InboxLink};
 use event_routes::{Routes, Target};
-use music_base::{AppId, Event, Item, Items, Nanos, NoMemory, PortId};
+use music_base::{AppId, Item, Items, Nanos, NoMemory, PortId};
 use std::alloc::{AllocError, Global};
 use std::cmp::Ordering;
 
@@ -29,22 +28,13 @@ pub struct Found {
     pub line: usize,
 }
 
-/// What an item gives: itself, where it is an event of the window whose index has targets.
-fn found_of(
-    item: &Item,
-    window: &Window,
-    line: usize,
-    link: &InboxLink,
-    routes: &Routes,
-) -> Option<Found>
-    ensures { result ≡ found (is_in window.now) line link.now routes.now item.now }
+/// What an item gives: itself, where it is an event of the window.
+fn found_of(item: &Item, window: &Window, line: usize, link: &InboxLink) -> Option<Found>
+    ensures { result ≡ found (is_in window.now) line link.now item.now }
 {
     match item {
         Item::Event(event) => {
             if !window.holds(event.time.0) {
-                return None;
-            }
-            if routes.targets(event.global).is_empty() {
                 return None;
             }
             Some(Found {
@@ -64,13 +54,12 @@ fn gather_items(
     window: &Window,
     line: usize,
     link: &InboxLink,
-    routes: &Routes,
     out: &mut Vec<Found>,
 ) -> Result<(), NoMemory>
-    ensures { OnOk result (out.new.items ≡ out.old.items ++ filter_map (found (is_in window.now) line link.now routes.now) items.now) }
+    ensures { OnOk result (out.new.items ≡ out.old.items ++ filter_map (found (is_in window.now) line link.now) items.now) }
 {
     for item in items {
-        if let Some(found) = found_of(item, window, line, link, routes) {
+        if let Some(found) = found_of(item, window, line, link) {
             out.push(found)?;
         }
     }
@@ -81,38 +70,36 @@ fn gather_items(
 fn gather_line(
     line: &Line,
     place: usize,
-    routes: &Routes,
     start: u64,
     tick: u64,
     step: u64,
     out: &mut Vec<Found>,
 ) -> Result<(), NoMemory>
     requires { 1 ≤ tick }
-    ensures { OnOk result (out.new.items ≡ out.old.items ++ blocks_found (falls_in start tick step line.now.link.latency) place line.now.link routes.now line.now.kept) }
+    ensures { OnOk result (out.new.items ≡ out.old.items ++ blocks_found (falls_in start tick step line.now.link.latency) place line.now.link line.now.kept) }
 {
     let link = line.link();
     let window = window_of(latency_of(&link), start, tick, step);
     for kept in line.kept() {
-        gather_items(kept.sent_in(&window), &window, place, &link, routes, out)?;
+        gather_items(kept.sent_in(&window), &window, place, &link, out)?;
     }
     Ok(())
 }
 
-/// Appends what is due over all connections, one after another.
+/// Appends what is due over all connections, one after another. No targets are looked up.
 fn gather(
     lines: &[Line],
-    routes: &[Routes],
     start: u64,
     tick: u64,
     step: u64,
     out: &mut Vec<Found>,
 ) -> Result<(), NoMemory>
-    requires same { length lines.now ≡ length routes.now }
-    requires tick { 1 ≤ tick }
-    ensures { OnOk result (map (waiting_found routes.now) out.new.items ≡ map (waiting_found routes.now) out.old.items ++ flat_map (line_waiting start tick step) (paired lines.now routes.now)) }
+    requires { 1 ≤ tick }
+    ensures { (routes : List (List Route)) → length lines.now ≡ length routes →
+        OnOk result (filter_map (waiting_found routes) out.new.items ≡ filter_map (waiting_found routes) out.old.items ++ flat_map (line_waiting start tick step) (paired lines.now routes)) }
 {
     for place in 0..lines.len() {
-        gather_line(&lines[place], place, &routes[place], start, tick, step, out)?;
+        gather_line(&lines[place], place, start, tick, step, out)?;
     }
     Ok(())
 }
@@ -162,23 +149,30 @@ fn targets_at(routes: &[Routes], line: usize, global: u32) -> &[Target]
     }
 }
 
-fn arrival(alloc: Global, found: &Found, routes: &[Routes]) -> Result<Arrival, NoMemory>
+/// The arrival that an event makes, where its index has targets.
+fn arrival(alloc: Global, found: &Found, routes: &[Routes]) -> Result<Option<Arrival>, NoMemory>
     ensures { IfOk result (λ arrival. arrival ≡ arrival_found routes.now found.now) }
 {
-    let targets = Vec::from_slice(alloc, targets_at(routes, found.line, found.global))?;
-    Ok(Arrival {
+    let targets = targets_at(routes, found.line, found.global);
+    if targets.is_empty() {
+        return Ok(None);
+    }
+    let targets = Vec::from_slice(alloc, targets)?;
+    Ok(Some(Arrival {
         time: found.time,
         global: found.global,
         targets: Items::from_vec(targets),
-    })
+    }))
 }
 
 fn arrivals(alloc: Global, found: &[Found], routes: &[Routes]) -> Result<Vec<Arrival>, NoMemory>
-    ensures { IfOk result (λ arrivals. arrivals.items ≡ map (arrival_found routes.now) found.now) }
+    ensures { IfOk result (λ arrivals. arrivals.items ≡ filter_map (arrival_found routes.now) found.now) }
 {
     let mut arrivals = Vec::with_capacity(alloc, found.len())?;
     for event in found {
-        arrivals.push(arrival(alloc, event, routes)?)?;
+        if let Some(arrival) = arrival(alloc, event, routes)? {
+            arrivals.push(arrival)?;
+        }
     }
     Ok(arrivals)
 }
@@ -197,7 +191,6 @@ pub fn deliver(
     let mut found = Vec::new(alloc);
     gather(
         lines.as_slice(),
-        routes,
         lines.start(),
         lines.tick(),
         step,

@@ -1,5 +1,8 @@
-use Rattle.std.proofs.Common.{◌≡◌, length}
+use Rattle.std.proofs.Common.{◌-◌, ◌≤◌, length}
 use Rattle.port_inbox.proofs.event_tests.routes_of_each.Given as goal
 
-abbrev pub invariant-loop-_place : goal.invariant-loop-_place
-invariant-loop-_place l = length l.all.items ≡ l._place
+abbrev pub invariant-each : goal.invariant-each
+invariant-each l = length l.all.items ≤ l.count
+
+abbrev pub decreases-each : goal.decreases-each
+decreases-each l = l.count - length l.all.items

@@ -5,4 +5,4 @@ use Rattle.port_inbox.proofs.finding.gather_items.Given as goal
 
 abbrev pub invariant-loop-item : goal.invariant-loop-item
 invariant-loop-item l =
-    l.out.items ++ filter_map (found (is_in l.window) l.line l.link l.routes) (drop l.item-index l.items) ≡ l.initial.out.items ++ filter_map (found (is_in l.window) l.line l.link l.routes) l.items
+    l.out.items ++ filter_map (found (is_in l.window) l.line l.link) (drop l.item-index l.items) ≡ l.initial.out.items ++ filter_map (found (is_in l.window) l.line l.link) l.items
