@@ -22,4 +22,6 @@ mod texts;
 #[cfg(test)]
 mod times;
 #[cfg(test)]
+mod turns;
+#[cfg(test)]
 mod words;
