@@ -1,5 +1,5 @@
 -- Values of which the indices ascend.
-use Rattle.std.proofs.Common.{◌≡◌, ℕ, zero, suc, ◌+◌, ◌<◌, ◌≤◌, true, false, List, [], ◌∷◌, ◌++◌, length, get_or, drop, take, set, map, add-one, append_assoc, unwrap_or, refl, sym, ap, ◌∙◌, inl, inr, arith, ℤ, pos, Option, Some, None}
+use Rattle.std.proofs.Common.{◌≡◌, ℕ, zero, suc, ◌+◌, ◌<◌, ◌≤◌, true, false, List, [], ◌∷◌, ◌++◌, length, get_or, drop, take, set, add-one, append_assoc, unwrap_or, refl, sym, ap, ◌∙◌, inl, inr, arith, ℤ, pos, Option, Some, None}
 use Rattle.std.specs.Prelude.{slice_get, ◌==◌, if◌then◌else◌, option_map}
 use Rattle.std.proofs.lemmas.Bool.{cases_Bool, cases_eq, eq-eqb, ne_eqb, ltb-true, ltb-false}
 use Rattle.std.proofs.Math.Seq.{take-suc, take-suc-set}
@@ -9,6 +9,7 @@ use Rattle.music_base.specs.declared.item.Item.{Item}
 use Rattle.music_base.specs.declared.item.Item.TheVariants.{Event, Value, Message}
 use Rattle.music_base.proofs.Gathered.{drop_next}
 use Rattle.index_maps.proofs.Ascending.{Ascends}
+use Rattle.scene_model.proofs.ProperLives.{are_values}
 use Rattle.rule_turns.specs.OneRule.{copied, found_value, scaled}
 use Rattle.rule_turns.specs.Plans.{index_place}
 use Rattle.rule_turns.specs.Turning.{AreAscending, is_value_below, overlay, value_of, zeros}
@@ -25,12 +26,8 @@ ascending-values least (g ∷ gs) (Value global value ∷ items) up are =
 ascending-values least (g ∷ gs) (Event e ∷ items) up are = absurd are
 ascending-values least (g ∷ gs) (Message m ∷ items) up are = absurd are
 
-pub values-map : (f : ℕ → ℤ) (gs : List ℕ) → AreValues gs (map (λ g. Value g (f g)) gs)
-values-map f [] = tt
-values-map f (g ∷ gs) = (refl, values-map f gs)
-
 pub values-zeros : (gs : List ℕ) → AreValues gs (zeros gs)
-values-zeros gs = values-map (λ g. pos 0) gs
+values-zeros gs = are_values (λ g. pos 0) gs
 
 -- ---- after an overlay
 

@@ -24,9 +24,9 @@ use Rattle.scene_model.specs.declared.port.Direction.{Direction}
 use Rattle.scene_model.specs.declared.port.Direction.TheVariants.{Output, Input}
 use Rattle.scene_model.specs.declared.rule.Rule.{Rule}
 use Rattle.scene_model.specs.declared.rule.Rule.TheVariants.{EmitAt, EmitEvery, Pass, SetValue, Ramp, CopyValues, When, Say, Reply}
+use Rattle.scene_model.proofs.ProperLives.{are_values}
 use Rattle.scene_model.proofs.RuleCases.{IsRule, is_rule}
 use Rattle.rule_turns.specs.Turning.{AreInputs, CanTurn, HasNumbers, IsInput}
-use Rattle.rule_turns.proofs.Ascending.{values-map}
 
 -- ---- applications and inputs
 
@@ -40,7 +40,7 @@ can_turn app is = record { lasts = runs_for (span app) app.tick; stand = is.rule
 is_input : (scene : Scene) (table : Table) (a j p : ℕ) (direction : Direction) (kind : PortKind)
     → IsInput direction kind (port_at scene a p) (input_by direction kind scene table a j p)
 is_input scene table a j p Output kind = tt
-is_input scene table a j p Input Values = values-map (λ g. value scene table a p j g) (indices (port_at scene a p).map)
+is_input scene table a j p Input Values = are_values (λ g. value scene table a p j g) (indices (port_at scene a p).map)
 is_input scene table a j p Input Events = tt
 is_input scene table a j p Input Messages = tt
 
