@@ -2,6 +2,7 @@ pub mod PlainFields
 pub mod PlainTexts
 pub mod Batches
 pub mod ReadyLines
+pub mod Tables
 pub mod Steps
 pub mod Nexts
 pub mod Merges

@@ -1,5 +1,5 @@
 -- Lines made of fields that stand ready and of numbers.
-use Rattle.std.specs.Prelude.{◌≡◌, ℕ, List, [], ◌∷◌, ◌++◌, ℤ, codes}
+use Rattle.std.specs.Prelude.{◌≡◌, ◌<◌, ℕ, List, [], ◌∷◌, ◌++◌, length, slice_index_or, ℤ, codes}
 use Rattle.std.specs.Fmt.{decimal, signed_decimal}
 use Rattle.std.specs.List.{join_with_byte}
 use Rattle.music_base.specs.Lines.{line_end}
@@ -25,6 +25,20 @@ rank_fields scene app port rank =
 pub record AreRankFields (scene : Scene) (app port rank : ℕ) (fields : RankFields) : Type 0 where
   pub kind : fields.kind ≡ (port_at scene app port).kind
   pub text : fields.text.items ≡ rank_fields scene app port rank
+
+-- P holds of each element and its place
+abbrev pub EachAt : {X : Type 0} → (ℕ → X → Type 0) → List X → Type 0
+EachAt {X} P xs = (i : ℕ) (past : X) → i < length xs → P i (slice_index_or xs i past)
+
+-- the fields of the first ranks of a port, of the first ports of an application, and of the first applications
+abbrev pub AreOfPort : Scene → ℕ → ℕ → List RankFields → Type 0
+AreOfPort scene app port ranks = EachAt (AreRankFields scene app port) ranks
+
+abbrev pub AreOfApp : Scene → ℕ → List (List RankFields) → Type 0
+AreOfApp scene app ports = EachAt (AreOfPort scene app) ports
+
+abbrev pub AreOfScene : Scene → List (List (List RankFields)) → Type 0
+AreOfScene scene apps = EachAt (AreOfApp scene) apps
 
 -- the line of an event and the line of a value, where `ready` stands between the clock and the local place
 abbrev pub event_line : ℕ → List ℕ → ℕ → ℕ → ℕ → List ℕ

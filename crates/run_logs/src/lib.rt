@@ -3,6 +3,8 @@
 //! A log is CSV: a header, and a line for each row, in the order in which the rows are given.
 #![tactic(auto)]
 
+mod batch;
+mod field_table;
 mod fields;
 mod lines;
 mod merging;

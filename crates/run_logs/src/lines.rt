@@ -1,6 +1,6 @@
 //! Lines of comma-separated fields in memory.
 ghost use Rattle.std.specs.Prelude.{◌≡◌, ◌++◌, ◌∷◌, [], ◌≤◌, List, OnOk, IfOk, map, length, Some, true};
-ghost use Rattle.std.specs.List.{flat_map, list_all, join_with_byte};
+ghost use Rattle.std.specs.List.{join_with_byte};
 ghost use Rattle.music_base.specs.Lines.{ended};
 ghost use Rattle.scene_model.specs.Logs.{comma, is_writable, line_of};
 ghost use Rattle.run_logs.specs.CsvLines.{IsAtLineStart, are_plain, written};
@@ -61,18 +61,6 @@ pub fn record_of(alloc: Global, fields: &[&[u8]]) -> Result<Vec<u8>, NoMemory>
     let mut text = finished(writer)?;
     let _line_end = text.pop();
     Ok(text)
-}
-
-/// The lines of the rows.
-pub fn lines_of(alloc: Global, scene: &Scene, rows: &[Row]) -> Result<Vec<u8>, NoMemory>
-    requires { list_all (is_writable scene.now) rows.now ≡ true }
-    ensures { IfOk result (λ text. text.items ≡ flat_map (line_of scene.now) rows.now) }
-{
-    let mut writer = line_writer(alloc);
-    for row in rows {
-        push_row(&mut writer, scene, row)?;
-    }
-    finished(writer)
 }
 
 /// The bytes of a row's line, with the line's end. The row is of a port of the scene, and a message's word is a word as

@@ -4,8 +4,10 @@ ghost use Rattle.std.specs.List.{flat_map, list_all};
 ghost use Rattle.music_base.specs.Causes.{Rose};
 ghost use Rattle.music_base.specs.Outside.{Took, TookPrefix};
 ghost use Rattle.scene_model.specs.Logs.{header, is_writable, line_of, text_of};
+ghost use Rattle.run_logs.specs.QuickLines.{AreOfScene};
 
-use crate::lines::lines_of;
+use crate::batch::Batch;
+use crate::field_table::{FieldTable, fields_of_scene};
 use music_base::{Sink, write_all};
 use scene_model::{Row, Scene};
 use std::alloc::Global;
@@ -48,10 +50,12 @@ fn write_text<K: Sink>(sink: &mut K, text: &[u8]) -> Result<(), WriteFault>
 fn write_lines<K: Sink>(
     alloc: Global,
     scene: &Scene,
+    table: &FieldTable,
     rows: &[Row],
     sink: &mut K,
 ) -> Result<(), WriteFault>
-    requires { list_all (is_writable scene.now) rows.now ≡ true }
+    requires writable { list_all (is_writable scene.now) rows.now ≡ true }
+    requires table { AreOfScene scene.now table.now }
     ensures all { OnOk result (Took (K.taken sink.old) (flat_map (line_of scene.now) rows.now) (K.taken sink.new)) }
     ensures prefix { TookPrefix (K.taken sink.old) (flat_map (line_of scene.now) rows.now) (K.taken sink.new) }
     ensures cause { IsErrOf result WriteFault.Sink → Rose (K.faults sink.old) (K.faults sink.new) }
@@ -59,13 +63,16 @@ fn write_lines<K: Sink>(
     ensures stays { OnOk result (K.faults sink.new ≡ K.faults sink.old) }
     ensures never_falls { K.faults sink.old ≤ K.faults sink.new }
 {
+    let Ok(mut lines) = Batch::make(alloc) else {
+        return Err(WriteFault::Memory);
+    };
     let mut rest = rows;
     while !rest.is_empty() {
         let (batch, later) = rest.split_at(rest.len().min(BATCH));
-        let Ok(lines) = lines_of(alloc, scene, batch) else {
+        let Ok(()) = lines.fill(alloc, scene, table, batch) else {
             return Err(WriteFault::Memory);
         };
-        write_text(sink, &lines)?;
+        write_text(sink, lines.text())?;
         rest = later;
     }
     Ok(())
@@ -89,5 +96,8 @@ pub fn write_rows<K: Sink>(
     ensures never_falls { K.faults sink.old ≤ K.faults sink.new }
 {
     write_text(sink, header())?;
-    write_lines(alloc, scene, rows, sink)
+    let Ok(table) = fields_of_scene(alloc, scene) else {
+        return Err(WriteFault::Memory);
+    };
+    write_lines(alloc, scene, &table, rows, sink)
 }

@@ -5,21 +5,21 @@ use Rattle.run_logs.proofs.Batches.{lines, none_written, writable_parts, batch_w
 use Rattle.run_logs.proofs.writing.write_lines.Goals as goal
 
 pub loop-rest-init : goal.loop-rest-init
-loop-rest-init g c = record { written = none_written _ _ _ c.requires; stays = refl }
+loop-rest-init g c = record { written = none_written _ _ _ c.requires.writable; stays = refl }
 
-pub returns-in_default-clause-prefix : goal.returns-in_default-clause-prefix
-returns-in_default-clause-prefix g c = written_prefix _ _ _ _ _ c.loop-rest.invariant.written
+pub returns-in_default-fill-clause-prefix : goal.returns-in_default-fill-clause-prefix
+returns-in_default-fill-clause-prefix g c = written_prefix _ _ _ _ _ c.loop-rest.invariant.written
 
 pub returns-in_err-write_text-clause-prefix : goal.returns-in_err-write_text-clause-prefix
 returns-in_err-write_text-clause-prefix g c =
-    let text : c.deref.result.now ≡ lines c.args.scene.now (take c.min.result c.loop-rest.rest.now) =
-    c.deref.ensures.value ∙ c.in-Ok.ensures ∙ ap (lines c.args.scene.now) c.split_at.ensures.front in
+    let text : c.text.result.now ≡ lines c.args.scene.now (take c.min.result c.loop-rest.rest.now) =
+    c.text.ensures ∙ c.in-Ok-fill.ensures ∙ ap (lines c.args.scene.now) c.split_at.ensures.front in
     batch_prefix _ _ _ _ _ _ _ c.loop-rest.invariant.written (rw text at c.in_err-write_text.ensures.prefix)
 
 pub loop-rest-preserved : goal.loop-rest-preserved
 loop-rest-preserved g c =
-    let text : c.deref.result.now ≡ lines c.args.scene.now (take c.min.result c.loop-rest.rest.now) =
-    c.deref.ensures.value ∙ c.in-Ok.ensures ∙ ap (lines c.args.scene.now) c.split_at.ensures.front in
+    let text : c.text.result.now ≡ lines c.args.scene.now (take c.min.result c.loop-rest.rest.now) =
+    c.text.ensures ∙ c.in-Ok-fill.ensures ∙ ap (lines c.args.scene.now) c.split_at.ensures.front in
     record {
       written = rw c.split_at.ensures.back (batch_written _ _ _ _ _ _ _ c.loop-rest.invariant.written (rw text at c.in_ok-write_text.ensures.all));
       stays = c.in_ok-write_text.ensures.stays ∙ c.loop-rest.invariant.stays;
@@ -28,8 +28,8 @@ loop-rest-preserved g c =
 pub returns-clause-prefix : goal.returns-clause-prefix
 returns-clause-prefix g c = written_prefix _ _ _ _ _ c.loop-rest.invariant.written
 
-pub lines_of-requires : goal.lines_of-requires
-lines_of-requires g c = rw c.split_at.ensures.front (writable_parts _ c.min.result _ c.loop-rest.invariant.written.writable).0
+pub fill-requires-clause-writable : goal.fill-requires-clause-writable
+fill-requires-clause-writable g c = rw c.split_at.ensures.front (writable_parts _ c.min.result _ c.loop-rest.invariant.written.writable).0
 
 pub loop-rest-smaller : goal.loop-rest-smaller
 loop-rest-smaller g c =

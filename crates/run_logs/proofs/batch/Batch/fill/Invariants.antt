@@ -1,0 +1,7 @@
+use Rattle.std.proofs.Common.{◌≡◌, ◌++◌, take}
+use Rattle.std.specs.List.{flat_map}
+use Rattle.scene_model.specs.Logs.{line_of}
+use Rattle.run_logs.proofs.batch.Batch.fill.Given as goal
+
+abbrev pub invariant-loop-row : goal.invariant-loop-row
+invariant-loop-row l = l.self.text.items ++ l.self.page ≡ flat_map (line_of l.scene) (take l.row-index l.rows)
