@@ -14,6 +14,8 @@ mod maps;
 #[cfg(test)]
 mod plans;
 #[cfg(test)]
+mod rows;
+#[cfg(test)]
 mod setups;
 #[cfg(test)]
 mod standard_ends;
