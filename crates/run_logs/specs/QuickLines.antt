@@ -1,5 +1,5 @@
 -- Lines made of fields that stand ready and of numbers.
-use Rattle.std.specs.Prelude.{◌≡◌, ◌<◌, ℕ, List, [], ◌∷◌, ◌++◌, length, slice_index_or, ℤ, codes}
+use Rattle.std.specs.Prelude.{◌≡◌, ◌<◌, ℕ, Bool, true, false, List, [], ◌∷◌, ◌++◌, length, slice_index_or, ℤ, codes}
 use Rattle.std.specs.Fmt.{decimal, signed_decimal}
 use Rattle.std.specs.List.{join_with_byte}
 use Rattle.music_base.specs.Lines.{line_end}
@@ -7,6 +7,8 @@ use Rattle.scene_model.specs.Logs.{comma}
 use Rattle.scene_model.specs.Scenes.{app_at, port_at}
 use Rattle.scene_model.specs.declared.port.PortKind.{PortKind}
 use Rattle.scene_model.specs.declared.port.PortKind.TheVariants.{Events, Values, Messages}
+use Rattle.scene_model.specs.declared.row.RowItem.{RowItem}
+use Rattle.scene_model.specs.declared.row.RowItem.TheVariants.{Event as EventRow, Value as ValueRow}
 use Rattle.scene_model.specs.declared.scene.Scene.{Scene}
 use Rattle.run_logs.specs.declared.ranks.RankFields.{RankFields}
 
@@ -21,7 +23,7 @@ abbrev pub rank_fields : Scene → ℕ → ℕ → ℕ → List ℕ
 rank_fields scene app port rank =
     join_with_byte comma ([] ∷ (app_at scene app).name ∷ (port_at scene app port).name ∷ kind_name (port_at scene app port).kind ∷ decimal rank ∷ [] ∷ [])
 
--- they stand ready
+-- what is kept of a rank of a port: the port's kind, and the text of these fields
 pub record AreRankFields (scene : Scene) (app port rank : ℕ) (fields : RankFields) : Type 0 where
   pub kind : fields.kind ≡ (port_at scene app port).kind
   pub text : fields.text.items ≡ rank_fields scene app port rank
@@ -40,7 +42,13 @@ AreOfApp scene app ports = EachAt (AreOfPort scene app) ports
 abbrev pub AreOfScene : Scene → List (List (List RankFields)) → Type 0
 AreOfScene scene apps = EachAt (AreOfApp scene) apps
 
--- the line of an event and the line of a value, where `ready` stands between the clock and the local place
+-- whether a row that tells this gets its line by the fields of a port of this kind
+abbrev pub serves : PortKind → RowItem → Bool
+serves Events (EventRow local global time) = true
+serves Values (ValueRow local global value) = true
+serves _ _ = false
+
+-- the line of an event and the line of a value, where the text `ready` stands between the clock and the local place
 abbrev pub event_line : ℕ → List ℕ → ℕ → ℕ → ℕ → List ℕ
 event_line clock ready local global time =
     decimal clock ++ ready ++ decimal local ++ comma ∷ decimal global ++ comma ∷ decimal time ++ comma ∷ line_end ∷ []

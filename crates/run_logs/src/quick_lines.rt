@@ -3,7 +3,7 @@ ghost use Rattle.std.specs.Prelude.{◌≡◌, ◌≤◌, ◌+◌, ◌++◌, ◌
 ghost use Rattle.std.specs.Fmt.{decimal};
 ghost use Rattle.scene_model.specs.Logs.{comma, line_of};
 ghost use Rattle.scene_model.specs.declared.scene.Scene.{Scene};
-ghost use Rattle.run_logs.specs.QuickLines.{AreRankFields, event_line, value_line};
+ghost use Rattle.run_logs.specs.QuickLines.{AreRankFields, event_line, serves, value_line};
 
 use crate::page::Page;
 use crate::ranks::RankFields;
@@ -23,7 +23,8 @@ fn push_front(page: &mut Page, clock: u64, ready: &[u8], local: u32, global: u32
     page.append(b",");
 }
 
-/// Appends the line of an event of this time.
+/// Appends the line of an event of this time, in ns. `ready` is the text of the fields of its rank, and there is room for
+/// them and a hundred bytes.
 pub fn push_event(page: &mut Page, clock: u64, ready: &[u8], local: u32, global: u32, time: u64)
     requires room { length page.old + length ready.now + 100 ≤ 65536 }
     ensures { page.new ≡ page.old ++ event_line clock ready.now local global time }
@@ -33,7 +34,8 @@ pub fn push_event(page: &mut Page, clock: u64, ready: &[u8], local: u32, global:
     page.append(b",\n");
 }
 
-/// Appends the line of a value.
+/// Appends the line of a value, in millionths. `ready` is the text of the fields of its rank, and there is room for them
+/// and a hundred bytes.
 pub fn push_value(page: &mut Page, clock: u64, ready: &[u8], local: u32, global: u32, value: i64)
     requires room { length page.old + length ready.now + 100 ≤ 65536 }
     ensures { page.new ≡ page.old ++ value_line clock ready.now local global value }
@@ -44,9 +46,11 @@ pub fn push_value(page: &mut Page, clock: u64, ready: &[u8], local: u32, global:
     page.append(b"\n");
 }
 
-/// Appends the line of a row of an event or a value, if these are the fields of its rank and of its kind.
+/// Appends the line of a row that tells an event or a value, by the fields of its rank, and answers whether it did: where
+/// the port is of another kind, and for a message, the page stays. There is room for the fields and a hundred bytes.
 pub fn push_ready(page: &mut Page, fields: &RankFields, row: &Row) -> bool
     requires room { length page.old + length fields.now.text.items + 100 ≤ 65536 }
+    ensures served { result ≡ serves fields.now.kind row.now.item }
     ensures pushed { result ≡ true → (scene : Scene) → AreRankFields scene row.now.app row.now.port row.now.rank fields.now →
         page.new ≡ page.old ++ line_of scene row.now }
     ensures left { result ≡ false → page.new ≡ page.old }

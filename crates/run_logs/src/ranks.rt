@@ -13,7 +13,7 @@ use music_base::{AppId, NoMemory, PortId, Rank};
 use scene_model::{PortKind, Scene};
 use std::alloc::Global;
 
-/// The fields of application, port, kind and rank, with the commas around them.
+/// The fields of application, port, kind and rank of a rank of a port, with the commas around them: `,sink,in,event,0,`.
 #[derive(Drop)]
 pub struct RankFields {
     kind: PortKind,
@@ -50,7 +50,7 @@ fn between_commas(
 }
 
 impl RankFields {
-    /// The fields of a rank of a port of the scene.
+    /// The fields of a rank of a port of the scene, as `csv` writes them.
     pub fn of(
         alloc: Global,
         scene: &Scene,
