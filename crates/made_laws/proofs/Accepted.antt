@@ -1,61 +1,58 @@
 -- Every made configuration describes an accepted scene.
-use Rattle.std.proofs.Common.{◌≡◌, ◌∙◌, ◌<◌, ℕ, ◌+◌, ◌*◌, ◌%◌, ◌/◌, ◌&&◌, Bool, true, false, List, [], ◌∷◌, get_or, Result, Ok, Err, ap, sym, refl, subst, arith, true≢false, ℤ, zero, suc, zero-add}
-use Rattle.std.specs.List.{list_all, All}
+use Rattle.std.proofs.Common.{◌≡◌, ◌∙◌, ℕ, ◌+◌, ◌*◌, ◌%◌, true, List, [], ◌∷◌, map, Result, Ok, Err, sym, refl, subst, arith, true≢false, ℤ, zero, suc}
+use Rattle.std.specs.List.{list_all, flat_map, All}
 use Rattle.std.specs.Prelude.{int_le, ◌≤ℤ◌}
-use Rattle.std.proofs.lemmas.List.Folds.{list_all_at}
-use Rattle.std.proofs.lemmas.List.FromFn.{get_or-range_with_len, length-range_with_len}
 use Rattle.music_base.specs.Numbers.{below}
-use Rattle.config_text.specs.declared.config.Config.{Config}
 use Rattle.scene_model.specs.Cover.{Passes}
 use Rattle.scene_model.specs.Waits.{IsAccepted, stated_waits}
+use Rattle.scene_model.specs.declared.scene.AppDecl.{AppDecl}
+use Rattle.scene_model.specs.declared.scene.Link.{Link}
 use Rattle.scene_model.specs.declared.scene.Scene.{Scene}
 use Rattle.scene_model.specs.declared.wait.Wait.{Wait}
 use Rattle.scene_model.proofs.Cycles.{passed_are_covered}
 use lib.Signed.{le_z_yes}
 use lib.Dec.{T}
+use Rattle.text_words.specs.InTurn.{◌>>=◌, faults_as}
+use Rattle.port_match.specs.Links.{links_of}
+use Rattle.port_match.specs.declared.fault.MatchFault.{MatchFault}
+use Rattle.music_setup.specs.Faults.{of_links}
 use Rattle.music_setup.specs.Scenes.{scene_of}
 use Rattle.music_setup.specs.declared.fault.SetupFault.{SetupFault}
-use Rattle.scene_make.specs.Made.{made}
+use Rattle.music_setup.specs.declared.fault.SetupFault.TheVariants as setup
+use Rattle.scene_make.specs.Made.{made, app_count, links_from, stop_of}
 use Rattle.made_laws.specs.Accepted.{MakesAccepted}
-use Rattle.made_laws.proofs.Periods.{made_again}
-use Rattle.made_laws.proofs.Computed.{is_good, are_good, passes, passes_alone, from_0, from_35, from_70, from_105, from_140, from_175}
+use Rattle.made_laws.proofs.Apps.{apps_read}
+use Rattle.made_laws.proofs.MadeScenes.{app_with, made_apps}
+use Rattle.made_laws.proofs.Ring.{good_at, pass, passes_alone}
+use Rattle.made_laws.proofs.Tested.{both}
 
-both : (a b : Bool) → (a && b) ≡ true → (a ≡ true) × (b ≡ true)
-both true b e = (refl, e)
-both false b e = absurd (true≢false (sym e))
+-- ---- the applications depend on the number by its remainder by six
 
--- ---- each of the first 210 numbers
+by_two : (n i : ℕ) → (n % 6 + i) % 2 ≡ (n + i) % 2
+by_two n i = omega arith
 
--- a test that all numbers below n pass, at one of them
-at_one : (test : ℕ → Bool) (n : ℕ) → list_all test (below n) ≡ true → (i : ℕ) → i < n → test i ≡ true
-at_one test n e i lt = go (test i) refl
-  where
-    go : (b : Bool) → test i ≡ b → b ≡ true
-    go true is = refl
-    go false is =
-        let len = length-range_with_len 0 n in
-        let here : get_or (below n) i 0 ≡ i = get_or-range_with_len 0 n i 0 lt ∙ zero-add i in
-        sym (list_all_at test (below n) i 0 (omega (arith, len)) (ap test here ∙ is)) ∙ e
+by_three : (n i : ℕ) → (n % 6 + i) % 3 ≡ (n + i) % 3
+by_three n i = omega arith
 
-first_are_good : (m : ℕ) → m < 210 → is_good m ≡ true
-first_are_good m lt = go (m / 35) refl
-  where
-    at : (k from : ℕ) → m / 35 ≡ k → from ≡ 35 * k → are_good from ≡ true → is_good m ≡ true
-    at k from is at_k all =
-        let same : from + m % 35 ≡ m = omega (arith, is, at_k) in
-        ap is_good (sym same) ∙ at_one (λ i. is_good (from + i)) 35 all (m % 35) (omega arith)
+same_apps : (stop n count : ℕ) → made_apps stop (n % 6) count ≡ made_apps stop n count
+same_apps stop n count = λ j. map (λ i. app_with stop (1 + by_two n i j) ((1 + by_three n i j) * 1_000_000) i) (below count)
 
-    go : (k : ℕ) → m / 35 ≡ k → is_good m ≡ true
-    go zero is = at 0 0 is refl from_0
-    go (suc zero) is = at 1 35 is refl from_35
-    go (suc (suc zero)) is = at 2 70 is refl from_70
-    go (suc (suc (suc zero))) is = at 3 105 is refl from_105
-    go (suc (suc (suc (suc zero)))) is = at 4 140 is refl from_140
-    go (suc (suc (suc (suc (suc zero))))) is = at 5 175 is refl from_175
-    go (suc (suc (suc (suc (suc (suc k)))))) is = absurd (omega (arith, is))
+-- ---- the links and their waits
 
--- ---- from the tests to the law
+abbrev apps : ℕ → List AppDecl
+apps n = made_apps (stop_of n) n (app_count n)
 
+abbrev links : ℕ → Result (List Link) MatchFault
+links n = links_of (apps n) (flat_map (links_from (app_count n)) (below (app_count n)))
+
+links_pass : (n : ℕ) → pass (stop_of n) (apps n) (links n) ≡ true
+links_pass n =
+    let good = good_at (stop_of n) (n % 7) (n % 6) (omega arith) (omega arith) in
+    subst (λ apps. pass (stop_of n) apps (links_of apps (flat_map (links_from (app_count n)) (below (app_count n)))) ≡ true) (same_apps (stop_of n) n (app_count n)) good
+
+-- ---- from the test to the law
+
+-- one application and no potential are enough
 at_most : (a b : ℤ) → int_le a b ≡ true → a ≤ℤ b
 at_most a b e = le_z_yes (subst T (sym e) tt)
 
@@ -64,12 +61,25 @@ each_passes [] e k d lt = absurd (omega arith)
 each_passes (w ∷ ws) e zero d lt = at_most _ _ (both _ _ e).0
 each_passes (w ∷ ws) e (suc k) d lt = each_passes ws (both _ _ e).1 k d (omega arith)
 
-accepted : (r : Result Scene SetupFault) → passes r ≡ true → (scene : Scene) × (r ≡ Ok scene) × IsAccepted scene
-accepted (Ok scene) e = (scene, refl, passed_are_covered 1 [] (stated_waits scene) (each_passes (stated_waits scene) e))
-accepted (Err fault) e = absurd (true≢false (sym e))
+-- the scene of these links
+abbrev scene_with : ℕ → List AppDecl → Result (List Link) MatchFault → Result Scene SetupFault
+scene_with stop apps links = faults_as of_links links >>= λ links. Ok (record { stop = stop; apps = apps; links = links })
+
+accepted : (stop : ℕ) (apps : List AppDecl) (links : Result (List Link) MatchFault) → pass stop apps links ≡ true
+    → (scene : Scene) × (scene_with stop apps links ≡ Ok scene) × IsAccepted scene
+accepted stop apps (Ok links) e =
+    let scene : Scene = record { stop = stop; apps = apps; links = links } in
+    (scene, refl, passed_are_covered 1 [] (stated_waits scene) (each_passes (stated_waits scene) e))
+accepted stop apps (Err fault) e = absurd (true≢false (sym e))
+
+scene_read : (n : ℕ) → scene_of (made n) ≡ scene_with (stop_of n) (apps n) (links n)
+unfolding scene_of made
+scene_read n = λ j.
+    faults_as setup.Scene (apps_read n j)
+    >>= λ read. faults_as of_links (links_of read.1 (flat_map (links_from (app_count n)) (below (app_count n))))
+    >>= λ links. Ok (record { stop = read.0; apps = read.1; links = links })
 
 pub makes_accepted : (n : ℕ) → MakesAccepted n
 makes_accepted n =
-    let lt : n % 210 < 210 = omega arith in
-    subst (λ (config : Config). (scene : Scene) × (scene_of config ≡ Ok scene) × IsAccepted scene) (made_again n)
-    (accepted (scene_of (made (n % 210))) (first_are_good (n % 210) lt))
+    let all = accepted (stop_of n) (apps n) (links n) (links_pass n) in
+    (all.0, scene_read n ∙ all.1, all.2)
