@@ -1,10 +1,11 @@
-//! Configurations that are made from a number: their texts, and that these are read again.
+//! Configurations that are made from a number: their texts, that these are read again, and that they can be set up.
 ghost use Rattle.std.specs.Prelude.{◌≤◌};
 
 use config_text::{TextFault, read_config, write_config};
 use music_base::NoMemory;
+use music_setup::setup;
 use scene_make::make;
-use std::alloc::Global;
+use std::alloc::{AllocError, Global};
 
 /// Number 0: two applications that stop at 1 second. The first has one process and a tick of 1 ms, the second two and one
 /// of 2 ms.
@@ -26,92 +27,32 @@ a1.out -> a0.in [100]
 a1.c -> a0.d [4]
 ";
 
-/// Numbers from 0 on, one after another: how many applications there are, and how the text begins.
-const BEGINNINGS: &[(usize, &[u8])] = &[
-    (
-        2,
-        b"stoptime=1\nbinary=script\n[a0]\nnp=1\ntimestep=0.001\n",
-    ),
-    (
-        3,
-        b"stoptime=2\nbinary=script\n[a0]\nnp=2\ntimestep=0.002\n",
-    ),
-    (
-        4,
-        b"stoptime=3\nbinary=script\n[a0]\nnp=1\ntimestep=0.003\n",
-    ),
-    (
-        5,
-        b"stoptime=4\nbinary=script\n[a0]\nnp=2\ntimestep=0.001\n",
-    ),
-    (
-        6,
-        b"stoptime=5\nbinary=script\n[a0]\nnp=1\ntimestep=0.002\n",
-    ),
-    (
-        7,
-        b"stoptime=1\nbinary=script\n[a0]\nnp=2\ntimestep=0.003\n",
-    ),
-    (
-        8,
-        b"stoptime=2\nbinary=script\n[a0]\nnp=1\ntimestep=0.001\n",
-    ),
-    (
-        2,
-        b"stoptime=3\nbinary=script\n[a0]\nnp=2\ntimestep=0.002\n",
-    ),
-    (
-        3,
-        b"stoptime=4\nbinary=script\n[a0]\nnp=1\ntimestep=0.003\n",
-    ),
-    (
-        4,
-        b"stoptime=5\nbinary=script\n[a0]\nnp=2\ntimestep=0.001\n",
-    ),
-    (
-        5,
-        b"stoptime=1\nbinary=script\n[a0]\nnp=1\ntimestep=0.002\n",
-    ),
-    (
-        6,
-        b"stoptime=2\nbinary=script\n[a0]\nnp=2\ntimestep=0.003\n",
-    ),
-    (
-        7,
-        b"stoptime=3\nbinary=script\n[a0]\nnp=1\ntimestep=0.001\n",
-    ),
-    (
-        8,
-        b"stoptime=4\nbinary=script\n[a0]\nnp=2\ntimestep=0.002\n",
-    ),
-    (
-        2,
-        b"stoptime=5\nbinary=script\n[a0]\nnp=1\ntimestep=0.003\n",
-    ),
-    (
-        3,
-        b"stoptime=1\nbinary=script\n[a0]\nnp=2\ntimestep=0.001\n",
-    ),
-    (
-        4,
-        b"stoptime=2\nbinary=script\n[a0]\nnp=1\ntimestep=0.002\n",
-    ),
-    (
-        5,
-        b"stoptime=3\nbinary=script\n[a0]\nnp=2\ntimestep=0.003\n",
-    ),
-    (
-        6,
-        b"stoptime=4\nbinary=script\n[a0]\nnp=1\ntimestep=0.001\n",
-    ),
-    (
-        7,
-        b"stoptime=5\nbinary=script\n[a0]\nnp=2\ntimestep=0.002\n",
-    ),
-    (
-        8,
-        b"stoptime=1\nbinary=script\n[a0]\nnp=1\ntimestep=0.003\n",
-    ),
+/// How many applications a number gives, their stop, and of the first one how many processes it has and its tick.
+type Given<'a> = (usize, &'a str, &'a str, &'a str);
+
+/// What the numbers from 0 on give.
+const NUMBERS: &[Given<'static>] = &[
+    (2, "1", "1", "0.001"),
+    (3, "2", "2", "0.002"),
+    (4, "3", "1", "0.003"),
+    (5, "4", "2", "0.001"),
+    (6, "5", "1", "0.002"),
+    (7, "1", "2", "0.003"),
+    (8, "2", "1", "0.001"),
+    (2, "3", "2", "0.002"),
+    (3, "4", "1", "0.003"),
+    (4, "5", "2", "0.001"),
+    (5, "1", "1", "0.002"),
+    (6, "2", "2", "0.003"),
+    (7, "3", "1", "0.001"),
+    (8, "4", "2", "0.002"),
+    (2, "5", "1", "0.003"),
+    (3, "1", "2", "0.001"),
+    (4, "2", "1", "0.002"),
+    (5, "3", "2", "0.003"),
+    (6, "4", "1", "0.001"),
+    (7, "5", "2", "0.002"),
+    (8, "1", "1", "0.003"),
 ];
 
 // The text of the configuration that is made from the number.
@@ -132,11 +73,35 @@ fn sections_of(alloc: Global, text: &[u8]) -> Result<Option<usize>, TextFault> {
     }
 }
 
-fn is_read_again(alloc: Global, number: u32, apps: usize, beginning: &[u8]) -> bool
+// How the text of what is given begins.
+fn beginning(alloc: Global, given: Given) -> Result<String, AllocError> {
+    let (_, stop, np, tick) = given;
+    format!(in alloc; "stoptime={stop}\nbinary=script\n[a0]\nnp={np}\ntimestep={tick}\n")
+}
+
+// Whether the text begins as it should, and is read again.
+fn is_text_of(alloc: Global, text: &[u8], given: Given) -> bool {
+    match beginning(alloc, given) {
+        Ok(beginning) => {
+            text.starts_with(beginning.as_bytes()) && sections_of(alloc, text) == Ok(Some(given.0))
+        }
+        Err(_) => false,
+    }
+}
+
+// Whether the text is set up to a scene of so many applications, each with two connections to the next one.
+fn is_ring(alloc: Global, text: &[u8], apps: usize) -> bool {
+    match setup(alloc, text) {
+        Ok(ready) => ready.scene().apps.len() == apps && ready.scene().links.len() == 2 * apps,
+        Err(_) => false,
+    }
+}
+
+fn is_made(alloc: Global, number: u32, given: Given) -> bool
     requires { number ≤ 9_999 }
 {
     match made_text(alloc, number) {
-        Ok(text) => text.starts_with(beginning) && sections_of(alloc, &text) == Ok(Some(apps)),
+        Ok(text) => is_text_of(alloc, &text, given) && is_ring(alloc, &text, given.0),
         Err(NoMemory) => false,
     }
 }
@@ -149,11 +114,8 @@ fn number_0_is_written(rt: HostRuntime) -> Result<(), NoMemory> {
 }
 
 #[test]
-fn made_texts_are_read_again(rt: HostRuntime) {
-    for (number, (apps, beginning)) in BEGINNINGS.iter().enumerate() {
-        assert!(rt;
-            is_read_again(rt.alloc(), number as u32, *apps, beginning),
-            "{number}"
-        );
+fn numbers_make_rings_that_are_read_again(rt: HostRuntime) {
+    for (number, given) in NUMBERS.iter().enumerate() {
+        assert!(rt; is_made(rt.alloc(), number as u32, *given), "{number}");
     }
 }

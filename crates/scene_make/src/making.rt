@@ -2,7 +2,7 @@
 ghost use Rattle.std.specs.Prelude.{◌≡◌, ◌≤◌, IfOk, map, true};
 ghost use Rattle.music_base.specs.Numbers.{below};
 ghost use Rattle.config_text.specs.Canon.{is_lawful_config};
-ghost use Rattle.scene_make.specs.Made.{app_count, made, section_of};
+ghost use Rattle.scene_make.specs.Made.{made, section_of};
 
 use crate::ring::{app_name, ring_links};
 use crate::settings::{app_settings, default_settings};

@@ -1,7 +1,6 @@
 //! The applications of a ring, and the connections from each to the next one.
-ghost use Rattle.std.specs.Prelude.{◌≡◌, ◌≤◌, ◌<◌, IfOk, true};
+ghost use Rattle.std.specs.Prelude.{◌≡◌, ◌≤◌, ◌<◌, IfOk};
 ghost use Rattle.std.specs.List.{flat_map};
-ghost use Rattle.music_base.specs.Names.{is_name};
 ghost use Rattle.music_base.specs.Numbers.{below};
 ghost use Rattle.scene_make.specs.Made.{app_name, event_link, links_from, value_link};
 
