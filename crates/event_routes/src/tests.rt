@@ -1,6 +1,8 @@
 //! Routes of small maps: worked rows, and the plain program that asks each rank for each of its indices.
-ghost use Rattle.std.specs.Prelude.{◌≡◌, ◌≤◌, length, IfOk};
+ghost use Rattle.std.specs.Prelude.{◌≡◌, ◌≤◌, nat_lt, length, IfOk};
+ghost use Rattle.std.specs.List.{list_all};
 ghost use Rattle.index_maps.specs.Maps.{rank_count};
+ghost use Rattle.index_maps.specs.declared.span.TheConstants.{INDEX_LIMIT};
 
 use crate::{Routes, Target};
 use index_maps::{INDEX_LIMIT, IndexMap, MapFault, PortMap, Span, permutation};
@@ -87,6 +89,12 @@ const INTERVALS: &[(&[RankRow], &[RankRow], u32)] = &[
     (&[Linear(0, 6)], &[Linear(6, 3)], 0),
 ];
 
+fn are_indices(list: &[u32]) -> bool
+    ensures { result ≡ list_all (λ i. nat_lt i INDEX_LIMIT) list.now }
+{
+    list.iter().all(|index| *index < INDEX_LIMIT)
+}
+
 fn map_of_rank(alloc: Global, row: RankRow) -> Result<IndexMap, MapFault> {
     match row {
         Linear(base, size) => {
@@ -96,13 +104,11 @@ fn map_of_rank(alloc: Global, row: RankRow) -> Result<IndexMap, MapFault> {
             Ok(IndexMap::Linear(Span::new(base, size)))
         }
         List(list) => {
-            if !list.iter().all(|index| *index < INDEX_LIMIT) {
+            if !are_indices(list) {
                 return Err(MapFault::Memory);
             }
-            permutation(
-                alloc,
-                Vec::from_slice(alloc, list).map_err(|_| MapFault::Memory)?,
-            )
+            let entries = Vec::from_slice(alloc, list).map_err(|_| MapFault::Memory)?;
+            permutation(alloc, entries)
         }
     }
 }
