@@ -26,7 +26,9 @@ pub struct Batch {
 
 impl Batch {
     /// An empty batch.
-    pub fn make(alloc: Global) -> Result<Batch, NoMemory> {
+    pub fn make(alloc: Global) -> Result<Batch, NoMemory>
+        ensures { IfOk result (λ batch. batch.text.items ++ batch.page ≡ []) }
+    {
         let page = Page::make(alloc)?;
         Ok(Batch {
             text: Vec::new(alloc),

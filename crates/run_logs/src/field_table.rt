@@ -6,14 +6,11 @@ ghost use Rattle.run_logs.specs.QuickLines.{AreOfApp, AreOfPort, AreOfScene, Are
 
 use crate::ranks::RankFields;
 use music_base::{AppId, Items, NoMemory, PortId, Rank};
-use scene_model::{Direction, Row, Scene};
+use scene_model::{Direction, MOST_RANKS, Row, Scene};
 use std::alloc::Global;
 
 /// For each application, port and rank the fields of their lines.
 pub type FieldTable = Items<Items<Items<RankFields>>>;
-
-// A port of a scene without a fault has no more ranks.
-const MOST_RANKS: u32 = 64;
 
 /// The fields of so many ranks of a port.
 fn fields_of_port(
@@ -34,7 +31,7 @@ fn fields_of_port(
     Ok(fields)
 }
 
-// How many ranks of a port can have rows. An output has none.
+// How many ranks of a port of a scene without a fault can have rows. An output has none.
 fn ranks_with_rows(direction: Direction, processes: u32) -> u32 {
     match direction {
         Direction::Input => processes.min(MOST_RANKS),
