@@ -10,6 +10,8 @@ mod copies;
 #[cfg(test)]
 mod cycles;
 #[cfg(test)]
+mod logs;
+#[cfg(test)]
 mod made_configs;
 #[cfg(test)]
 mod maps;
