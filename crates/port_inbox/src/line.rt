@@ -82,10 +82,12 @@ impl Line {
         self.admitted
     }
 
-    /// Makes room for so many blocks.
+    /// Makes room for so many blocks. Where memory is wanting nothing changes.
     pub fn reserve(&mut self, blocks: usize) -> Result<(), NoMemory>
         ensures same { self.new ≡ record self.old { spare = self.new.spare } }
         ensures room { OnOk result (blocks ≤ self.new.spare) }
+        ensures grows { self.old.spare ≤ self.new.spare }
+        ensures err { OnErr result (self.new ≡ self.old) }
     {
         self.kept.reserve(blocks)?;
         Ok(())

@@ -126,6 +126,8 @@ impl Lines {
         requires { link < length self.old.lines }
         ensures room { OnOk result (blocks ≤ (line_at self.new link).spare) }
         ensures same { self.new ≡ with_line self.old link (record (line_at self.old link) { spare = (line_at self.new link).spare }) }
+        ensures grows { (line_at self.old link).spare ≤ (line_at self.new link).spare }
+        ensures err { OnErr result (self.new ≡ self.old) }
     {
         let line = &mut self.lines[link as usize];
         line.reserve(blocks)

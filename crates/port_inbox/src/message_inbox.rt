@@ -81,21 +81,26 @@ impl MessageInbox {
         self.lines.kept(link)
     }
 
-    /// Makes room for one block of a connection, named by its place among those of the inbox.
+    /// Makes room for one block of a connection, named by its place among those of the inbox. Where memory is wanting the inbox
+    /// stays as it was.
     pub fn reserve(&mut self, link: u32) -> Result<(), NoMemory>
         requires { link < length self.old.lines }
         ensures room { OnOk result (1 ≤ (line_at self.new link).spare) }
         ensures same { self.new ≡ with_line self.old link (record (line_at self.old link) { spare = (line_at self.new link).spare }) }
+        ensures grows { (line_at self.old link).spare ≤ (line_at self.new link).spare }
+        ensures err { OnErr result (self.new ≡ self.old) }
     {
         self.lines.reserve(link, 1)
     }
 
-    /// Makes room for so many blocks of a connection, at most 1,000,001.
+    /// Makes room for so many blocks of a connection, at most 1,000,001. Where memory is wanting the inbox stays as it was.
     pub fn reserve_many(&mut self, link: u32, blocks: u64) -> Result<(), NoMemory>
         requires link { link < length self.old.lines }
         requires blocks { blocks ≤ 1_000_001 }
         ensures room { OnOk result (blocks ≤ (line_at self.new link).spare) }
         ensures same { self.new ≡ with_line self.old link (record (line_at self.old link) { spare = (line_at self.new link).spare }) }
+        ensures grows { (line_at self.old link).spare ≤ (line_at self.new link).spare }
+        ensures err { OnErr result (self.new ≡ self.old) }
     {
         self.lines.reserve(link, blocks as usize)
     }
