@@ -14,13 +14,10 @@ use std::process::Abort;
 #[derive(Clone, Copy)]
 enum RankRow {
     Linear(u32, u32),
-    Seven,
-    FiveOneThree,
-    ThreeFive,
-    ThreeOneTwoZero,
+    List(&'static [u32]),
 }
 
-use RankRow::{FiveOneThree, Linear, Seven, ThreeFive, ThreeOneTwoZero};
+use RankRow::{Linear, List};
 
 /// A sender, a receiver, an index, and the ranks and local places that it goes to.
 const TARGETS: &[(&[RankRow], &[RankRow], u32, &[(u32, u32)])] = &[
@@ -48,23 +45,23 @@ const TARGETS: &[(&[RankRow], &[RankRow], u32, &[(u32, u32)])] = &[
     (&[Linear(3, 2)], &[Linear(0, 10)], 2, &[]),
     (&[Linear(3, 2)], &[Linear(0, 10)], 3, &[(0, 3)]),
     (&[Linear(3, 2)], &[Linear(0, 10)], 5, &[]),
-    (&[Linear(0, 2), Seven], &[Linear(0, 10)], 7, &[(0, 7)]),
+    (&[Linear(0, 2), List(&[7])], &[Linear(0, 10)], 7, &[(0, 7)]),
     // lists in any order, and ranks that map nothing
     (
         &[Linear(0, 10)],
-        &[FiveOneThree, Linear(0, 0), ThreeFive],
+        &[List(&[5, 1, 3]), Linear(0, 0), List(&[3, 5])],
         5,
         &[(0, 0), (2, 1)],
     ),
     (
         &[Linear(0, 10)],
-        &[FiveOneThree, Linear(0, 0), ThreeFive],
+        &[List(&[5, 1, 3]), Linear(0, 0), List(&[3, 5])],
         3,
         &[(0, 2), (2, 0)],
     ),
     (
         &[Linear(0, 10)],
-        &[FiveOneThree, Linear(0, 0), ThreeFive],
+        &[List(&[5, 1, 3]), Linear(0, 0), List(&[3, 5])],
         2,
         &[],
     ),
@@ -85,74 +82,55 @@ const INTERVALS: &[(&[RankRow], &[RankRow], u32)] = &[
     (&[Linear(0, 6)], &[Linear(0, 4), Linear(2, 4)], 3),
     (&[Linear(0, 600)], &[Linear(0, 600)], 1),
     // other local places break no interval, and a hole of the sender does
-    (&[Linear(0, 6)], &[ThreeOneTwoZero], 1),
+    (&[Linear(0, 6)], &[List(&[3, 1, 2, 0])], 1),
     (&[Linear(0, 2), Linear(3, 2)], &[Linear(0, 6)], 2),
     // the same number of other ranks
     (&[Linear(0, 6)], &[Linear(0, 3), Linear(3, 3)], 2),
     (&[Linear(0, 6)], &[Linear(6, 3)], 0),
 ];
 
-fn linear(base: u32, size: u32) -> Result<IndexMap, NoMemory> {
-    if base > INDEX_LIMIT || size > INDEX_LIMIT - base {
-        return Err(NoMemory);
-    }
-    Ok(IndexMap::Linear(Span::new(base, size)))
+fn are_indices(list: &[u32]) -> bool
+    ensures { result ≡ list_all (λ i. nat_lt i INDEX_LIMIT) list.now }
+{
+    list.iter().all(|index| *index < INDEX_LIMIT)
 }
 
-fn listed(map: Result<IndexMap, MapFault>) -> Result<IndexMap, NoMemory> {
-    match map {
-        Ok(map) => Ok(map),
-        Err(_) => Err(NoMemory),
-    }
-}
-
-fn seven(alloc: Global) -> Result<IndexMap, NoMemory> {
-    let list = vec![in alloc; 7]?;
-    listed(permutation(alloc, list))
-}
-
-fn five_one_three(alloc: Global) -> Result<IndexMap, NoMemory> {
-    let list = vec![in alloc; 5, 1, 3]?;
-    listed(permutation(alloc, list))
-}
-
-fn three_five(alloc: Global) -> Result<IndexMap, NoMemory> {
-    let list = vec![in alloc; 3, 5]?;
-    listed(permutation(alloc, list))
-}
-
-fn three_one_two_zero(alloc: Global) -> Result<IndexMap, NoMemory> {
-    let list = vec![in alloc; 3, 1, 2, 0]?;
-    listed(permutation(alloc, list))
-}
-
-fn map_of_rank(alloc: Global, row: RankRow) -> Result<IndexMap, NoMemory> {
+fn map_of_rank(alloc: Global, row: RankRow) -> Result<IndexMap, MapFault> {
     match row {
-        Linear(base, size) => linear(base, size),
-        Seven => seven(alloc),
-        FiveOneThree => five_one_three(alloc),
-        ThreeFive => three_five(alloc),
-        ThreeOneTwoZero => three_one_two_zero(alloc),
+        Linear(base, size) => {
+            if base > INDEX_LIMIT || size > INDEX_LIMIT - base {
+                return Err(MapFault::Memory);
+            }
+            Ok(IndexMap::Linear(Span::new(base, size)))
+        }
+        List(list) => {
+            if !are_indices(list) {
+                return Err(MapFault::Memory);
+            }
+            let entries = Vec::from_slice(alloc, list).map_err(|_| MapFault::Memory)?;
+            permutation(alloc, entries)
+        }
     }
 }
 
-fn map_of(alloc: Global, rows: &[RankRow]) -> Result<PortMap, NoMemory>
+fn map_of(alloc: Global, rows: &[RankRow]) -> Result<PortMap, MapFault>
     ensures { IfOk result (λ map. rank_count map ≡ length rows.now) }
 {
     let mut maps = Vec::new(alloc);
     for row in rows {
-        maps.push(map_of_rank(alloc, *row)?)?;
+        maps.push(map_of_rank(alloc, *row)?)
+            .map_err(|_| MapFault::Memory)?;
     }
     Ok(PortMap::Each(Items::from_vec(maps)))
 }
 
-fn routes_of(alloc: Global, sender: &[RankRow], receiver: &[RankRow]) -> Result<Routes, NoMemory> {
+fn routes_of(alloc: Global, sender: &[RankRow], receiver: &[RankRow]) -> Result<Routes, MapFault> {
     if receiver.len() > 64 {
-        return Err(NoMemory);
+        return Err(MapFault::Memory);
     }
     let sender = map_of(alloc, sender)?;
     let receiver = map_of(alloc, receiver)?;
-    Routes::build(alloc, &sender, &receiver)
+    Ok(Routes::build(alloc, &sender, &receiver)?)
 }
 
 // The targets of an index by the definition alone: each place of each rank is asked.
@@ -205,14 +183,14 @@ fn rows_are_plain(
     alloc: Global,
     sender: &[RankRow],
     receiver: &[RankRow],
-) -> Result<bool, NoMemory> {
+) -> Result<bool, MapFault> {
     if receiver.len() > 64 {
-        return Err(NoMemory);
+        return Err(MapFault::Memory);
     }
     let ranks = receiver.len() as u32;
     let sender = map_of(alloc, sender)?;
     let receiver = map_of(alloc, receiver)?;
-    are_plain(alloc, &sender, &receiver, ranks, 20)
+    Ok(are_plain(alloc, &sender, &receiver, ranks, 20)?)
 }
 
 fn are_targets(targets: &[Target], expected: &[(u32, u32)]) -> bool {
@@ -228,7 +206,7 @@ fn are_targets(targets: &[Target], expected: &[(u32, u32)]) -> bool {
 }
 
 #[test]
-fn an_index_goes_to_the_ranks_that_map_it(rt: HostRuntime) -> Result<(), NoMemory> {
+fn an_index_goes_to_the_ranks_that_map_it(rt: HostRuntime) -> Result<(), MapFault> {
     for (sender, receiver, global, expected) in TARGETS {
         let routes = routes_of(rt.alloc(), sender, receiver)?;
         assert!(rt; are_targets(routes.targets(*global), expected));
@@ -237,7 +215,7 @@ fn an_index_goes_to_the_ranks_that_map_it(rt: HostRuntime) -> Result<(), NoMemor
 }
 
 #[test]
-fn intervals_are_maximal(rt: HostRuntime) -> Result<(), NoMemory> {
+fn intervals_are_maximal(rt: HostRuntime) -> Result<(), MapFault> {
     for (sender, receiver, count) in INTERVALS {
         let routes = routes_of(rt.alloc(), sender, receiver)?;
         assert!(rt; routes.intervals() == *count);
@@ -246,7 +224,7 @@ fn intervals_are_maximal(rt: HostRuntime) -> Result<(), NoMemory> {
 }
 
 #[test]
-fn routes_are_those_of_the_plain_program(rt: HostRuntime) -> Result<(), NoMemory> {
+fn routes_are_those_of_the_plain_program(rt: HostRuntime) -> Result<(), MapFault> {
     for (sender, receiver, _, _) in TARGETS {
         assert!(rt; rows_are_plain(rt.alloc(), sender, receiver)?);
     }
