@@ -63,7 +63,9 @@ fn negated(value: i64) -> i64 {
 }
 
 // The block of a sample, its indices ascending or not.
-fn block_of(alloc: Global, number: u64, sample: i64, ascend: bool) -> Result<Block, NoMemory> {
+fn block_of(alloc: Global, number: u64, sample: i64, ascend: bool) -> Result<Block, NoMemory>
+    ensures { IfOk result (λ block. block.number ≡ number) }
+{
     let (three, five) = (value(3, sample), value(5, negated(sample)));
     let items = if ascend {
         vec![in alloc; three, five]?
