@@ -7,14 +7,10 @@ use Rattle.std.proofs.lemmas.List.{get_or-set_same, get_or-set_other, length-map
 use Rattle.std.proofs.Math.Seq.{take-length}
 use Rattle.std.proofs.lemmas.List.Elements.{All-replicate, recursion_from_All}
 use Rattle.music_base.proofs.Lists.{All-at, All-get_or, All-of, All-push, All-weaker}
+use Rattle.music_base.proofs.Pairs.{all_set}
 use Rattle.scene_model.specs.declared.row.Row.{Row}
 use Rattle.run_logs.specs.Merging.{AreQueues, AreRowsOf, QueuedRows, held_by, rows_of}
 use Rattle.run_logs.proofs.Nexts.{rows_at}
-
-All-set : {X : Type 0} (P : X → Type 0) (xs : List X) (i : ℕ) (y : X) → AllByRecursion P xs → P y → AllByRecursion P (slice_set xs i y)
-All-set P [] i y all at = tt
-All-set P (x ∷ xs) zero y all at = (at, all.1)
-All-set P (x ∷ xs) (suc i) y all at = (all.0, All-set P xs i y all.1 at)
 
 -- the rows of one application, in place of those that it had
 pub rows_set : (held : List (List Row)) (place : ℕ) (rows : List Row) → place < length held → AreRowsOf place rows
@@ -36,7 +32,7 @@ rows_set held place rows lt are all b = by_place (cases_order b place)
 pub queue_set : (spare less : ℕ) (queues : List QueuedRows) (place : ℕ) (queue : QueuedRows) → AreQueues spare queues → less ≤ spare
     → place < length queues → less ≤ queue.spare → AreRowsOf place queue.rows → AreQueues less (slice_set queues place queue)
 queue_set spare less queues place queue are le lt room rows = record {
-  room = All-set (λ q. less ≤ q.spare) queues place queue (All-weaker (λ q. spare ≤ q.spare) (λ q. less ≤ q.spare) (λ q s. omega arith) queues are.room) room;
+  room = all_set (λ q. less ≤ q.spare) queues place queue room (All-weaker (λ q. spare ≤ q.spare) (λ q. less ≤ q.spare) (λ q s. omega arith) queues are.room);
   rows = subst (λ held. (b : ℕ) → AreRowsOf b (rows_of held b)) (sym (map-set (λ q. q.rows) queues place queue))
       (rows_set (held_by queues) place queue.rows (rw length-map lt) rows are.rows);
 }
