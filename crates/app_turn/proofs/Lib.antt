@@ -1,0 +1,12 @@
+pub mod Acts
+pub mod Feeding
+pub mod Fitting
+pub mod FreshInboxes
+pub mod Inputs
+pub mod Keeping
+pub mod Moves
+pub mod Openings
+pub mod Places
+pub mod Ports
+pub mod RowParts
+pub mod Views

@@ -1,0 +1,7 @@
+pub mod Machines
+pub mod Moves
+pub mod OwnLinks
+pub mod PortInboxes
+pub mod Rows
+pub mod Shapes
+pub mod Steps

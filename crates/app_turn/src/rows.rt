@@ -1,0 +1,247 @@
+//! The rows of a step, made of what its inputs read.
+ghost use Rattle.std.specs.Prelude.{◌≡◌, ◌==◌, ◌+◌, ◌*◌, ◌<◌, ◌≤◌, ◌++◌, true, ℕ, [], map, length, slice_index_or, IfOk, OnOk};
+ghost use Rattle.std.specs.List.{flat_map, position};
+ghost use Rattle.std.specs.Option.{option_to_list};
+ghost use Rattle.index_maps.specs.Indices.{are_indices};
+ghost use Rattle.index_maps.specs.Maps.{globals_of, rank_count};
+ghost use Rattle.scene_model.specs.Clocks.{clock};
+ghost use Rattle.scene_model.specs.Faults.{IsFaultless};
+ghost use Rattle.scene_model.specs.Logs.{arrived_at, read_at, step_rows_in};
+ghost use Rattle.scene_model.specs.Scenes.{app_at, port_at};
+ghost use Rattle.scene_model.specs.Tables.{value_in};
+ghost use Rattle.app_turn.specs.Rows.{port_rows_of, rank_rows_of, row_of};
+
+use index_maps::{IndexMap, PortMap};
+use music_base::{AppId, Item, Items, Nanos, NoMemory, PortId, Rank, Sample, TryCopy};
+use scene_model::{Direction, PortDecl, PortKind, Row, RowItem, Scene};
+use std::alloc::Global;
+
+/// Where and when something is read: at the clock of a step, in ns, by a rank of an input.
+#[derive(Clone, Copy, Debug)]
+pub struct ReadAt {
+    pub clock: Nanos,
+    pub app: AppId,
+    pub port: PortId,
+    pub rank: Rank,
+}
+
+fn row_of(place: &ReadAt, item: RowItem) -> Row
+    ensures { result ≡ row_of place.now item }
+{
+    Row {
+        clock: place.clock,
+        app: place.app,
+        port: place.port,
+        rank: place.rank,
+        item,
+    }
+}
+
+/// The value of an index among these items, and 0 where none has it.
+fn value_in(items: &[Item], index: u32) -> Sample
+    ensures { result ≡ value_in items.now index }
+{
+    for item in items {
+        if let Item::Value { global, value } = item {
+            if *global == index {
+                return *value;
+            }
+        }
+    }
+    Sample(0)
+}
+
+/// Adds the values of a rank's indices.
+fn push_values(
+    rows: &mut Items<Row>,
+    place: &ReadAt,
+    ports: &PortMap,
+    items: &[Item],
+) -> Result<(), NoMemory>
+    requires { place.now.rank < rank_count ports.now }
+    ensures { OnOk result (rows.new ≡ rows.old ++ map (row_of place.now) (read_at (globals_of ports.now place.now.rank) (value_in items.now))) }
+{
+    for local in 0..ports.size_at(place.rank) {
+        if let Some(global) = ports.global_at(place.rank, local) {
+            let value = value_in(items, global);
+            rows.push(row_of(
+                place,
+                RowItem::Value {
+                    local,
+                    global,
+                    value,
+                },
+            ))?;
+        }
+    }
+    Ok(())
+}
+
+/// The local place of an index at a rank. `None` exactly where the rank does not map it.
+fn local_at(ports: &PortMap, rank: Rank, global: u32) -> Option<u32>
+    requires { rank < rank_count ports.now }
+    ensures place { result ≡ position (λ i. i == global) (globals_of ports.now rank) }
+    ensures differ { are_indices (globals_of ports.now rank) ≡ true }
+{
+    let _size = ports.size_at(rank);
+    match ports {
+        PortMap::Each(maps) => match &maps.as_slice()[rank.0 as usize] {
+            IndexMap::Linear(span) => span.local_of(global),
+            IndexMap::Permutation(list) => list.local_of(global),
+        },
+        PortMap::Split { .. } => ports.rank_map(rank).local_of(global),
+    }
+}
+
+/// What a rank of a port gets of an arrival.
+fn arrived(
+    alloc: Global,
+    ports: &PortMap,
+    rank: Rank,
+    item: &Item,
+) -> Result<Option<RowItem>, NoMemory>
+    requires { rank < rank_count ports.now }
+    ensures { IfOk result (λ got. option_to_list got ≡ arrived_at (globals_of ports.now rank) item.now) }
+{
+    match item {
+        Item::Event(event) => match local_at(ports, rank, event.global) {
+            Some(local) => Ok(Some(RowItem::Event {
+                local,
+                global: event.global,
+                time: event.time,
+            })),
+            None => Ok(None),
+        },
+        Item::Message(message) => Ok(Some(RowItem::Message {
+            time: message.time,
+            word: message.word.copy(alloc)?,
+        })),
+        Item::Value { .. } => Ok(None),
+    }
+}
+
+fn push_got(rows: &mut Items<Row>, place: &ReadAt, got: Option<RowItem>) -> Result<(), NoMemory>
+    ensures { OnOk result (rows.new ≡ rows.old ++ map (row_of place.now) (option_to_list got)) }
+{
+    match got {
+        Some(item) => rows.push(row_of(place, item)),
+        None => Ok(()),
+    }
+}
+
+/// Adds the arrivals that a rank of a port gets.
+fn push_arrivals(
+    alloc: Global,
+    rows: &mut Items<Row>,
+    place: &ReadAt,
+    ports: &PortMap,
+    items: &[Item],
+) -> Result<(), NoMemory>
+    requires { place.now.rank < rank_count ports.now }
+    ensures { OnOk result (rows.new ≡ rows.old ++ map (row_of place.now) (flat_map (arrived_at (globals_of ports.now place.now.rank)) items.now)) }
+{
+    for item in items {
+        let got = arrived(alloc, ports, place.rank, item)?;
+        push_got(rows, place, got)?;
+    }
+    Ok(())
+}
+
+/// Adds what a rank of a port gets.
+fn push_rank(
+    alloc: Global,
+    rows: &mut Items<Row>,
+    place: &ReadAt,
+    decl: &PortDecl,
+    items: &[Item],
+) -> Result<(), NoMemory>
+    requires { place.now.rank < rank_count decl.now.map }
+    ensures { OnOk result (rows.new ≡ rows.old ++ rank_rows_of decl.now place.now items.now) }
+{
+    match (decl.direction, decl.kind) {
+        (Direction::Output, _) => Ok(()),
+        (Direction::Input, PortKind::Values) => push_values(rows, place, &decl.map, items),
+        (Direction::Input, PortKind::Events | PortKind::Messages) => {
+            push_arrivals(alloc, rows, place, &decl.map, items)
+        }
+    }
+}
+
+fn rank_count(map: &PortMap) -> u32
+    requires { rank_count map.now ≤ 64 }
+    ensures { result ≡ rank_count map.now }
+{
+    match map {
+        PortMap::Each(maps) => maps.len() as u32,
+        PortMap::Split { span: _, ranks } => *ranks,
+    }
+}
+
+/// Adds what the ranks of a port get, rank by rank.
+fn push_port(
+    alloc: Global,
+    rows: &mut Items<Row>,
+    clock: Nanos,
+    app: AppId,
+    port: PortId,
+    decl: &PortDecl,
+    items: &[Item],
+) -> Result<(), NoMemory>
+    requires { rank_count decl.now.map ≤ 64 }
+    ensures { OnOk result (rows.new ≡ rows.old ++ port_rows_of decl.now clock app port items.now) }
+{
+    for rank in 0..rank_count(&decl.map) {
+        let place = ReadAt {
+            clock,
+            app,
+            port,
+            rank: Rank(rank),
+        };
+        push_rank(alloc, rows, &place, decl, items)?;
+    }
+    Ok(())
+}
+
+/// The clock of a step of an application, in ns.
+#[tactic(auto, unfolding(scene_model::specs::Clocks::start, scene_model::specs::Clocks::tick))]
+pub fn clock_of(scene: &Scene, app: AppId, step: u64) -> Nanos
+    requires faultless { IsFaultless scene.now }
+    requires app { app < length scene.now.apps }
+    requires step { step ≤ 1_000_000 }
+    ensures { result ≡ clock scene.now app step }
+{
+    let decl = scene.app(app);
+    Nanos(decl.start.0 + step * decl.tick.0)
+}
+
+/// The rows of a step whose ports read these items: port by port, and rank by rank.
+pub fn rows_of(
+    alloc: Global,
+    scene: &Scene,
+    app: AppId,
+    step: u64,
+    inputs: &[Items<Item>],
+) -> Result<Items<Row>, NoMemory>
+    requires faultless { IsFaultless scene.now }
+    requires app { app < length scene.now.apps }
+    requires step { step ≤ 1_000_000 }
+    requires counted { length inputs.now ≡ length (app_at scene.now app).ports }
+    ensures { IfOk result (λ rows. rows ≡ step_rows_in scene.now app step inputs.now) }
+{
+    let decl = scene.app(app);
+    let clock = clock_of(scene, app, step);
+    let mut rows = Items::new(alloc);
+    for port in 0..inputs.len() {
+        let id = PortId(port as u32);
+        push_port(
+            alloc,
+            &mut rows,
+            clock,
+            app,
+            id,
+            decl.port(id),
+            inputs[port].as_slice(),
+        )?;
+    }
+    Ok(rows)
+}
