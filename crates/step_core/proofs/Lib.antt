@@ -1,0 +1,4 @@
+pub mod Ends
+pub mod Histories
+pub mod Owning
+pub mod Rooms
