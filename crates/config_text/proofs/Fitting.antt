@@ -1,6 +1,6 @@
--- What a line is read as is lawful, and what it is refused as is never Unbuilt.
+-- What a line is read as is lawful.
 use Rattle.std.proofs.Common.{◌≡◌, ℕ, Bool, true, false, not, ◌&&◌, ◌||◌, List, [], ◌∷◌, refl}
-use Rattle.std.specs.Prelude.{Result, Ok, Err, Option, Some, None, if◌then◌else◌}
+use Rattle.std.specs.Prelude.{⊤, Result, Ok, Err, Option, Some, None, if◌then◌else◌}
 use Rattle.std.specs.List.{list_any, list_all, before_first, after_first}
 use Rattle.std.specs.Option.{ok_or}
 use Rattle.std.specs.Str.Parse.{digits_value}
@@ -8,7 +8,7 @@ use Rattle.std.specs.Int.{is_in_range}
 use Rattle.std.proofs.lemmas.Bool.{and_parts, and_from}
 use Rattle.music_base.specs.Names.{is_name}
 use Rattle.config_text.specs.declared.text_kind.TextKind.{TextKind}
-use Rattle.config_text.specs.declared.text_kind.TextKind.TheVariants.{BadOption, Unbuilt}
+use Rattle.config_text.specs.declared.text_kind.TextKind.TheVariants.{BadOption}
 use Rattle.music_base.specs.Times.{is_point}
 use Rattle.config_text.specs.Bytes.{close_bracket, is_quote, is_equals, is_open_bracket, is_close_bracket, is_text_byte}
 use Rattle.config_text.specs.Parts.{◌>>=◌, without_cr, before_comment, trimmed, ends_in, between_ends, name_in, is_value}
@@ -22,37 +22,33 @@ use Rattle.config_text.specs.Contents.{Content, section, setting, connection, is
 use Rattle.config_text.proofs.ReadOptions.{options_lawful}
 use Rattle.config_text.proofs.TextBytes.{list_all-drop, text-trimmed, quoted_value, plain_value}
 
-abbrev pub is_built : TextKind → Bool
-is_built Unbuilt = false
-is_built _ = true
-
--- what is read obeys the law, and a refusal is not Unbuilt
+-- what is read, if something is, obeys the law
 abbrev pub Reads : {X : Type 0} → (X → Bool) → Result X TextKind → Type 0
 Reads law (Ok x) = law x ≡ true
-Reads law (Err kind) = is_built kind ≡ true
+Reads law (Err kind) = ⊤
 
 reads-then : {A B : Type 0} (law : A → Bool) (next : B → Bool) (r : Result A TextKind) (f : A → Result B TextKind) → Reads law r → ((x : A) → law x ≡ true → Reads next (f x)) → Reads next (r >>= f)
 reads-then law next (Ok x) f first second = second x first
-reads-then law next (Err kind) f first second = first
+reads-then law next (Err kind) f first second = tt
 
 reads-if : {A : Type 0} (law : A → Bool) (t : Bool) (a b : Result A TextKind) → (t ≡ true → Reads law a) → (t ≡ false → Reads law b) → Reads law (if t then a else b)
 reads-if law true a b yes_ no_ = yes_ refl
 reads-if law false a b yes_ no_ = no_ refl
 
 reads-name : (text : List ℕ) → Reads is_name (name_in text)
-reads-name text = reads-if is_name (is_name (trimmed text)) _ _ (λ is. is) (λ is. refl)
+reads-name text = reads-if is_name (is_name (trimmed text)) _ _ (λ is. is) (λ is. tt)
 
 reads-value : (text : List ℕ) → list_all is_text_byte text ≡ true → Reads is_value (value_in text)
 reads-value text all =
     let raw = trimmed text in
     reads-if is_value (is_quoted raw) _ _ (λ quoted. quoted_value raw (text-trimmed text all) quoted)
-    (λ bare. reads-if is_value (list_any is_quote raw) _ _ (λ some. refl) (λ none. plain_value raw (text-trimmed text all) none))
+    (λ bare. reads-if is_value (list_any is_quote raw) _ _ (λ some. tt) (λ none. plain_value raw (text-trimmed text all) none))
 
 reads-section : (content : List ℕ) → Reads is_lawful (section_in content)
 reads-section content =
     reads-if is_lawful (ends_in close_bracket content) _ _
     (λ closed. reads-then is_name is_lawful (name_in (between_ends content)) (λ name. Ok (section name)) (reads-name (between_ends content)) (λ name is. is))
-    (λ open_. refl)
+    (λ open_. tt)
 
 reads-setting : (content : List ℕ) → list_all is_text_byte content ≡ true → Reads is_lawful (setting_in content)
 reads-setting content all =
@@ -65,12 +61,12 @@ are_names names = is_name names.0 && is_name names.1
 
 reads-end : (text : List ℕ) → Reads are_names (end_in text)
 unfolding are_names
-reads-end text = reads-if are_names (is_name (before_first is_point (trimmed text)) && is_name (after_first is_point (trimmed text))) _ _ (λ is. is) (λ is. refl)
+reads-end text = reads-if are_names (is_name (before_first is_point (trimmed text)) && is_name (after_first is_point (trimmed text))) _ _ (λ is. is) (λ is. tt)
 
 reads-width : (text : List ℕ) → Reads (λ width. is_width (Some width)) (width_in text)
 reads-width text =
     let count = trimmed text in
-    reads-if (λ width. is_width (Some width)) (is_count count && is_in_range 1 most_width (digits_value 10 count)) _ _ (λ is. (and_parts (is_count count) _ is).1) (λ is. refl)
+    reads-if (λ width. is_width (Some width)) (is_count count && is_in_range 1 most_width (digits_value 10 count)) _ _ (λ is. (and_parts (is_count count) _ is).1) (λ is. tt)
 
 reads-given : (text : Option (List ℕ)) → Reads is_width (width_given text)
 reads-given None = refl
@@ -83,7 +79,7 @@ reads-options : (text : List ℕ) → Reads are_lawful (ok_or (options_in text) 
 reads-options text = go (options_in text) refl
   where
     go : (o : Option LinkOptions) → options_in text ≡ o → Reads are_lawful (ok_or o BadOption)
-    go None is = refl
+    go None is = tt
     go (Some options) is = let o = options_lawful text options is in and_from _ _ o.latency o.buffered
 
 link_is : (from to : List ℕ × List ℕ) (width : Option ℕ) (options : LinkOptions) → are_names from ≡ true → are_names to ≡ true → is_width width ≡ true → are_lawful options ≡ true
@@ -103,11 +99,11 @@ directed_is FromReceiver left right width options a b fits lawful = link_is righ
 reads-right : (right : List ℕ) → Reads (λ part. true) (right_in right)
 reads-right right =
     reads-if (λ part. true) (not (list_any is_open_bracket right)) _ _ (λ bare. refl)
-    (λ opens. reads-if (λ part. true) (list_any is_close_bracket (after_first is_open_bracket right)) _ _ (λ closes. refl) (λ unclosed. refl))
+    (λ opens. reads-if (λ part. true) (list_any is_close_bracket (after_first is_open_bracket right)) _ _ (λ closes. refl) (λ unclosed. tt))
 
 reads-cut : (cut : AtArrow) → Reads is_link (connection_of cut)
 reads-cut cut =
-    reads-if is_link (list_any is_quote cut.before || list_any is_quote cut.behind) _ _ (λ some. refl)
+    reads-if is_link (list_any is_quote cut.before || list_any is_quote cut.behind) _ _ (λ some. tt)
     (λ none. reads-then (λ part. true) is_link (right_in (trimmed cut.behind)) _ (reads-right (trimmed cut.behind))
     (λ part is. reads-then are_names is_link (end_in cut.before) _ (reads-end cut.before)
     (λ left a. reads-then are_names is_link (end_in part.end) _ (reads-end part.end)
@@ -116,7 +112,7 @@ reads-cut cut =
     (λ options lawful. directed_is cut.arrow left right width options a b fits lawful))))))
 
 reads-at : (cut : Option AtArrow) → Reads is_link (connection_at cut)
-reads-at None = refl
+reads-at None = tt
 reads-at (Some cut) = reads-cut cut
 
 reads-in : (content : List ℕ) → list_all is_text_byte content ≡ true → Reads is_lawful (content_in content)
@@ -129,7 +125,7 @@ reads-in (b ∷ bytes) all =
 pub reads-content : (line : List ℕ) → Reads is_lawful (content_of line)
 reads-content line =
     let visible = before_comment (without_cr line) in
-    reads-if is_lawful (list_all is_text_byte visible) _ _ (λ all. reads-in (trimmed visible) (text-trimmed visible all)) (λ other. refl)
+    reads-if is_lawful (list_all is_text_byte visible) _ _ (λ all. reads-in (trimmed visible) (text-trimmed visible all)) (λ other. tt)
 
 pub lawful_content : (line : List ℕ) (content : Content) → content_of line ≡ Ok content → is_lawful content ≡ true
 lawful_content line content is = go (content_of line) (reads-content line) is

@@ -1,4 +1,4 @@
--- What a text spells is lawful, and no fault of a text is Unbuilt.
+-- What a text spells is lawful.
 use Rattle.std.proofs.Common.{◌≡◌, ℕ, zero, suc, ◌+◌, ◌<◌, ◌≤◌, Bool, true, false, ◌&&◌, leb, List, [], ◌∷◌, ◌++◌, length, map, take, get_or, Option, Some, None, cond, refl, sym, subst, ap, ◌∙◌, arith}
 use Rattle.std.specs.Prelude.{Ok, Err, is_some}
 use Rattle.std.specs.Option.{IfSome}
@@ -9,7 +9,7 @@ use Rattle.std.proofs.lemmas.List.Folds.{list_all-append}
 use Rattle.music_base.specs.Names.{is_name}
 use Rattle.config_text.specs.declared.link_text.LinkText.{LinkText}
 use Rattle.config_text.specs.declared.text_kind.TextKind.{TextKind}
-use Rattle.config_text.specs.declared.text_kind.TextKind.TheVariants.{RepeatedSection, RepeatedSetting, TooManySections, TooManyLinks, TooLong, Unbuilt}
+use Rattle.config_text.specs.declared.text_kind.TextKind.TheVariants.{RepeatedSection, RepeatedSetting, TooManySections, TooManyLinks, TooLong}
 use Rattle.config_text.specs.declared.text_fault.TextFault.{TextFault}
 use Rattle.config_text.specs.declared.text_fault.TextFault.TheVariants as text_faults
 use Rattle.config_text.specs.declared.config.Config.{Config}
@@ -26,7 +26,7 @@ use Rattle.config_text.proofs.Adding.{no_repeat, open_defaults, open_last}
 use Rattle.config_text.proofs.Keeping.{settings_push, sections_push, sections_onto}
 use Rattle.config_text.proofs.ConfigParts.{LawfulParts, lawful_parts, from_parts}
 use Rattle.config_text.proofs.OneMore.{config-push}
-use Rattle.config_text.proofs.Fitting.{is_built, Reads, reads-content}
+use Rattle.config_text.proofs.Fitting.{Reads, reads-content}
 
 -- ---- each line
 
@@ -123,31 +123,3 @@ pub spelled_lawful : (bytes : List ℕ) (config : Config) → Spells config byte
 spelled_lawful bytes config spells =
     let all : take (length (lines bytes)) (lines bytes) ≡ lines bytes = take_all (length (lines bytes)) (lines bytes) (omega arith) in
     subst (λ (c : Config). is_lawful_config c ≡ true) (sym (spells.is ∙ ap config_of (sym all))) (lawful_to bytes spells.faultless (length (lines bytes)) (omega arith))
-
-built_one : (t : Bool) (a kind : TextKind) → is_built a ≡ true → cond t (Some a) None ≡ Some kind → is_built kind ≡ true
-built_one true a kind built e = let same : a ≡ kind = cc in rw (← same) built
-built_one false a kind built e = absurd cc
-
-built_first : (t u : Bool) (a b kind : TextKind) → is_built a ≡ true → is_built b ≡ true → cond t (Some a) (cond u (Some b) None) ≡ Some kind → is_built kind ≡ true
-built_first true u a b kind one two e = let same : a ≡ kind = cc in rw (← same) one
-built_first false u a b kind one two e = built_one u b kind two e
-
-beside_built : (config : Config) (line : Line) (kind : TextKind) → Reads is_lawful line → fault_beside config line ≡ Some kind → is_built kind ≡ true
-beside_built config (Err own) kind reads e = let same : own ≡ kind = cc in rw (← same) reads
-beside_built config (Ok blank) kind reads e = absurd cc
-beside_built config (Ok (section name)) kind reads e = built_first (is_some (value_of config.sections name)) (leb 32 (length config.sections)) RepeatedSection TooManySections kind refl refl e
-beside_built config (Ok (setting name value)) kind reads e = built_one (is_some (value_of (open_settings config) name)) RepeatedSetting kind refl e
-beside_built config (Ok (connection link)) kind reads e = built_one (leb 64 (length config.links)) TooManyLinks kind refl e
-
-pub never_unbuilt : (bytes : List ℕ) (line : ℕ) → HasFault bytes line Unbuilt → ⊥
-unfolding fault_at
-never_unbuilt bytes zero fault = let e : Unbuilt ≡ TooLong = fault.1 in cc
-never_unbuilt bytes (suc i) fault =
-    true≢false (sym (beside_built (config_of (take i (lines bytes))) (get_or (lines bytes) i (Ok blank)) Unbuilt (reads-lines (raw_lines bytes) i) fault.1))
-
-pub built_fault : (bytes : List ℕ) (fault : TextFault) → IsFaultOf bytes fault → (line : ℕ) → fault ≡ text_faults.At line Unbuilt → ⊥
-built_fault bytes text_faults.Memory is line e = cc
-built_fault bytes (text_faults.At n kind) is line e =
-    let a : n ≡ line = cc in
-    let b : kind ≡ Unbuilt = cc in
-    never_unbuilt bytes line (rw (a, b) at is)

@@ -4,7 +4,7 @@ ghost use Rattle.std.specs.Prelude.{◌≡◌, ◌<◌, ◌≤◌, ℕ, List, �
 ghost use Rattle.std.specs.List.{list_all};
 ghost use Rattle.config_text.specs.declared.config.Config.{Config};
 ghost use Rattle.config_text.specs.declared.text_kind.TextKind.{TextKind};
-ghost use Rattle.config_text.specs.declared.text_kind.TextKind.TheVariants.{BadLine, BadName, BadWidth, BadOption, Unbuilt};
+ghost use Rattle.config_text.specs.declared.text_kind.TextKind.TheVariants.{BadLine, BadName, BadWidth, BadOption};
 ghost use Rattle.config_text.specs.Lines.{longest_text};
 ghost use Rattle.config_text.specs.BareTexts.{SpellsBare, states_no_option};
 ghost use Rattle.config_text.specs.ConnectionRows.{ab_to_cd, reads_ab_to_cd};
@@ -14,13 +14,12 @@ ghost use Rattle.config_text.specs.Parts.{BeginsComment, before_comment};
 ghost use Rattle.config_text.specs.Text.{Spells, HasFault};
 ghost use Rattle.config_text.specs.Canon.{canon, is_lawful_config};
 
-/// Each text spells exactly one configuration, or has exactly one first fault, and never both. No fault is `Unbuilt`.
+/// Each text spells exactly one configuration, or has exactly one first fault, and never both.
 pub fn one_reading()
     ensures some { (bytes : List ℕ) → ((config : Config) × Spells config bytes) ⊎ ((line : ℕ) × (kind : TextKind) × HasFault bytes line kind) }
     ensures apart { (bytes : List ℕ) (config : Config) (line : ℕ) (kind : TextKind) → Spells config bytes → HasFault bytes line kind → ⊥ }
     ensures one_config { (bytes : List ℕ) (a b : Config) → Spells a bytes → Spells b bytes → a ≡ b }
     ensures one_fault { (bytes : List ℕ) (m n : ℕ) (j k : TextKind) → HasFault bytes m j → HasFault bytes n k → (m ≡ n) × (j ≡ k) }
-    ensures never_unbuilt { (bytes : List ℕ) (line : ℕ) → HasFault bytes line Unbuilt → ⊥ }
 {}
 
 /// What a text spells is lawful: names are names, no key stands twice, values, widths and counts are within the limits.

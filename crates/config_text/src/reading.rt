@@ -8,7 +8,6 @@ ghost use Rattle.config_text.specs.Contents.{content_of, is_lawful, section, set
 ghost use Rattle.config_text.specs.Pairs.{value_of, last_value, onto_last};
 ghost use Rattle.config_text.specs.Text.{Spells, IsFaultOf, fault_beside, open_settings, section_fault, link_fault};
 ghost use Rattle.config_text.specs.Inner.{seen, link_of, with_content, with_line, with_setting, OnKind, Adds, at_line};
-ghost use Rattle.config_text.specs.declared.text_kind.TextKind.TheVariants.{Unbuilt};
 ghost use Rattle.config_text.specs.declared.text_fault.TextFault.TheVariants.{At};
 ghost use Rattle.config_text.specs.declared.reading.LineFault.TheVariants.{Memory};
 
@@ -191,7 +190,6 @@ fn at_line(line: u64, fault: LineFault) -> TextFault
 pub fn read_config(alloc: Global, bytes: &[u8]) -> Result<Config, TextFault>
     ensures spelled { IfOk result (λ config. Spells config bytes.now) }
     ensures faulty { IfErr result (IsFaultOf bytes.now) }
-    ensures never_unbuilt { IfErr result (λ fault. (line : ℕ) → fault ≢ At line Unbuilt) }
 {
     if bytes.len() > LONGEST_TEXT {
         return Err(TextFault::At {

@@ -22,6 +22,4 @@ pub enum TextKind {
     TooManySections,
     /// The 65th connection.
     TooManyLinks,
-    /// The text is right, and not served yet. `read_config` never answers this.
-    Unbuilt,
 }

@@ -2,7 +2,6 @@
 use Rattle.std.proofs.Common.{◌≡◌, ℕ, List, length, Ok, Some, refl, sym, ap, subst, ◌∙◌}
 use Rattle.std.specs.Prelude.{All}
 use Rattle.std.proofs.lemmas.List.{length-map}
-use Rattle.config_text.specs.declared.text_kind.TextKind.TheVariants.{Unbuilt}
 use Rattle.cycle_check.specs.CycleTexts.{IsBetween}
 use Rattle.scene_model.specs.Cover.{IsReportable}
 use Rattle.scene_model.specs.Faults.{IsFaultless}
@@ -66,12 +65,3 @@ pub plan_has_text : (config : Config) (scene : Scene) (fault : NegotiateFault) �
     → (of_plan fault ≡ setup.Memory → ⊥) → HasText (Some config) (of_plan fault)
 plan_has_text config scene plan.Memory describes faultless told some = absurd (some refl)
 plan_has_text config scene (plan.Uncovered cycle) describes faultless told some = told_has_text config scene cycle.0.items describes faultless told
-
--- ---- none is of a form that is not built yet
-
-pub text_built : (fault : TextFault) → ((line : ℕ) → fault ≡ text.At line Unbuilt → ⊥) → (line : ℕ) → of_text fault ≡ setup.Text line Unbuilt → ⊥
-text_built text.Memory never line same = absurd cc
-text_built (text.At other kind) never line same = never line cc
-
-pub config_built : (config : Config) (fault : SetupFault) → IsConfigFault config fault → (line : ℕ) → fault ≡ setup.Text line Unbuilt → ⊥
-config_built config fault is line same = let none : IsConfigFault config (setup.Text line Unbuilt) = subst (IsConfigFault config) same is in none

@@ -35,7 +35,6 @@ kind_name line.RepeatedSection = codes "RepeatedSection"
 kind_name line.RepeatedSetting = codes "RepeatedSetting"
 kind_name line.TooManySections = codes "TooManySections"
 kind_name line.TooManyLinks = codes "TooManyLinks"
-kind_name line.Unbuilt = codes "Unbuilt"
 
 -- a line of the text, and its fault
 unfoldable pub text_fault : ℕ → TextKind → List ℕ

@@ -1,6 +1,5 @@
 //! From a configuration, or a text, to a scene and its plan.
 ghost use Rattle.std.specs.Prelude.{◌≡◌, ◌≢◌, ℕ, IfErr, IfOk, Ok, Some};
-ghost use Rattle.config_text.specs.declared.text_kind.TextKind.TheVariants.{Unbuilt};
 ghost use Rattle.music_setup.specs.Scenes.{scene_of};
 ghost use Rattle.music_setup.specs.Setups.{IsConfigFault, IsSound, IsTextFault, SpellsScene};
 ghost use Rattle.music_setup.specs.Texts.{HasText};
@@ -73,7 +72,6 @@ pub fn setup(alloc: Global, bytes: &[u8]) -> Result<Ready, SetupFault>
     ensures scene { IfOk result (λ ready. SpellsScene bytes.now ready.scene) }
     ensures sound { IfOk result IsSound }
     ensures fault { IfErr result (IsTextFault bytes.now) }
-    ensures never_unbuilt { IfErr result (λ fault. (line : ℕ) → fault ≢ Text line Unbuilt) }
 {
     let config = read_config(alloc, bytes)?;
     setup_config(alloc, &config)

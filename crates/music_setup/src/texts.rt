@@ -47,7 +47,6 @@ fn kind_name(kind: TextKind) -> &'static [u8]
         TextKind::RepeatedSetting => b"RepeatedSetting",
         TextKind::TooManySections => b"TooManySections",
         TextKind::TooManyLinks => b"TooManyLinks",
-        TextKind::Unbuilt => b"Unbuilt",
     }
 }
 

@@ -1,7 +1,6 @@
 use Rattle.std.proofs.Common.{sym, length}
 use Rattle.std.proofs.lemmas.Bool.{eqb-true}
 use Rattle.config_text.proofs.FrontToBack.{read_none, read_on, fault_at_line, read_all}
-use Rattle.config_text.proofs.SpelledLaws.{built_fault}
 use Rattle.config_text.proofs.reading.read_config.Goals as goal
 
 pub loop-rest-init : goal.loop-rest-init
@@ -17,9 +16,6 @@ returns-in-Err-clause-faulty c =
     rw c.at_line.ensures
     (fault_at_line c.args.bytes.now c.loop-rest.rest.now c.split_line.result.0.now c.split_line.result.1.now c.loop-rest.line c.loop-rest.config c.in-Err.fault
     c.if-bytes-gt-LONGEST_TEXT.false c.loop-rest.invariant c.split_line.ensures.lines c.in-Err.ensures.fault)
-
-pub returns-in-Err-clause-never_unbuilt : goal.returns-in-Err-clause-never_unbuilt
-returns-in-Err-clause-never_unbuilt c = built_fault c.args.bytes.now c.at_line.result (returns-in-Err-clause-faulty c)
 
 pub returns-clause-spelled : goal.returns-clause-spelled
 returns-clause-spelled c =

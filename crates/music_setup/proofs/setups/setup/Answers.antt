@@ -1,14 +1,10 @@
 use Rattle.music_setup.proofs.HandedOn.{IfErr-and, IfErr-weaker, IfOk-weaker}
-use Rattle.music_setup.proofs.OfSetups.{config_built, spelled_fault, text_built, text_fault}
+use Rattle.music_setup.proofs.OfSetups.{spelled_fault, text_fault}
 use Rattle.music_setup.proofs.setups.setup.Goals as goal
 
 pub returns-in_err-config-clause-fault : goal.returns-in_err-config-clause-fault
 returns-in_err-config-clause-fault c =
     IfErr-and _ _ c.from_residual.result c.from_residual.ensures.1 (λ e is. rw is (text_fault c.args.bytes.now c.in_err-config.field-0.0 c.in_err-config.ensures.faulty))
-
-pub returns-in_err-config-clause-never_unbuilt : goal.returns-in_err-config-clause-never_unbuilt
-returns-in_err-config-clause-never_unbuilt c =
-    IfErr-and _ _ c.from_residual.result c.from_residual.ensures.1 (λ e is. rw is (text_built c.in_err-config.field-0.0 c.in_err-config.ensures.never_unbuilt))
 
 pub returns-clause-scene : goal.returns-clause-scene
 returns-clause-scene c = IfOk-weaker _ _ c.setup_config.result c.setup_config.ensures.scene (λ ready is. (c.in_ok-config.config, c.in_ok-config.ensures.spelled, is))
@@ -19,7 +15,3 @@ returns-clause-sound c = c.setup_config.ensures.sound
 pub returns-clause-fault : goal.returns-clause-fault
 returns-clause-fault c =
     IfErr-weaker _ _ c.setup_config.result c.setup_config.ensures.fault (λ fault is. spelled_fault c.args.bytes.now c.in_ok-config.config fault c.in_ok-config.ensures.spelled is)
-
-pub returns-clause-never_unbuilt : goal.returns-clause-never_unbuilt
-returns-clause-never_unbuilt c =
-    IfErr-weaker _ _ c.setup_config.result c.setup_config.ensures.fault (λ fault is. config_built c.in_ok-config.config fault is)
