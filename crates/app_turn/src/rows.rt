@@ -1,8 +1,7 @@
 //! The rows of a step, made of what its inputs read.
-ghost use Rattle.std.specs.Prelude.{◌≡◌, ◌==◌, ◌+◌, ◌*◌, ◌<◌, ◌≤◌, ◌++◌, true, ℕ, [], map, length, slice_index_or, IfOk, OnOk};
-ghost use Rattle.std.specs.List.{flat_map, position};
+ghost use Rattle.std.specs.Prelude.{◌≡◌, ◌+◌, ◌*◌, ◌<◌, ◌≤◌, ◌++◌, ℕ, [], map, length, slice_index_or, IfOk, OnOk};
+ghost use Rattle.std.specs.List.{flat_map};
 ghost use Rattle.std.specs.Option.{option_to_list};
-ghost use Rattle.index_maps.specs.Indices.{are_indices};
 ghost use Rattle.index_maps.specs.Maps.{globals_of, rank_count};
 ghost use Rattle.scene_model.specs.Clocks.{clock};
 ghost use Rattle.scene_model.specs.Faults.{IsFaultless};
@@ -11,7 +10,7 @@ ghost use Rattle.scene_model.specs.Scenes.{app_at, port_at};
 ghost use Rattle.scene_model.specs.Tables.{value_in};
 ghost use Rattle.app_turn.specs.Rows.{port_rows_of, rank_rows_of, row_of};
 
-use index_maps::{IndexMap, PortMap};
+use index_maps::PortMap;
 use music_base::{AppId, Item, Items, Nanos, NoMemory, PortId, Rank, Sample, TryCopy};
 use scene_model::{Direction, PortDecl, PortKind, Row, RowItem, Scene};
 use std::alloc::Global;
@@ -77,22 +76,6 @@ fn push_values(
     Ok(())
 }
 
-/// The local place of an index at a rank. `None` exactly where the rank does not map it.
-fn local_at(ports: &PortMap, rank: Rank, global: u32) -> Option<u32>
-    requires { rank < rank_count ports.now }
-    ensures place { result ≡ position (λ i. i == global) (globals_of ports.now rank) }
-    ensures differ { are_indices (globals_of ports.now rank) ≡ true }
-{
-    let _size = ports.size_at(rank);
-    match ports {
-        PortMap::Each(maps) => match &maps.as_slice()[rank.0 as usize] {
-            IndexMap::Linear(span) => span.local_of(global),
-            IndexMap::Permutation(list) => list.local_of(global),
-        },
-        PortMap::Split { .. } => ports.rank_map(rank).local_of(global),
-    }
-}
-
 /// What a rank of a port gets of an arrival.
 fn arrived(
     alloc: Global,
@@ -104,7 +87,7 @@ fn arrived(
     ensures { IfOk result (λ got. option_to_list got ≡ arrived_at (globals_of ports.now rank) item.now) }
 {
     match item {
-        Item::Event(event) => match local_at(ports, rank, event.global) {
+        Item::Event(event) => match ports.local_at(rank, event.global) {
             Some(local) => Ok(Some(RowItem::Event {
                 local,
                 global: event.global,

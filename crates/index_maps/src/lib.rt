@@ -8,6 +8,7 @@ mod cuts;
 mod interval;
 mod laws;
 mod list;
+mod listing;
 mod map;
 mod mapping;
 mod permuting;

@@ -74,7 +74,8 @@ impl IndexList {
     /// The local place of a global index, where it is in the list.
     #[tactic(auto, using(crate::proofs::Pigeonholes::indices_are_few))]
     pub fn local_of(&self, global: u32) -> Option<u32>
-        ensures { result ≡ position (λ i. i == global) self.now }
+        ensures place { result ≡ position (λ i. i == global) self.now }
+        ensures differ { are_indices self.now ≡ true }
     {
         let place = index_place(self.as_slice(), global)?;
         Some(place as u32)

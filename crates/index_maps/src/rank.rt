@@ -76,6 +76,23 @@ impl PortMap {
             PortMap::Split { span, ranks } => part_of(*span, *ranks, rank.0).global_of(local),
         }
     }
+
+    /// The local place of a global index at a rank of the port. `None` exactly where the rank does not map it. It is
+    /// computed where the rank's indices are consecutive, and looked for in a list.
+    ///
+    /// The rank is one of the port's.
+    pub fn local_at(&self, rank: Rank, global: u32) -> Option<u32>
+        requires { rank < rank_count self.now }
+        ensures place { result ≡ position (λ i. i == global) (globals_of self.now rank) }
+        ensures indices { are_indices (globals_of self.now rank) ≡ true }
+    {
+        match self {
+            PortMap::Each(maps) => lent(&maps.as_slice()[rank.0 as usize]).local_of(global),
+            PortMap::Split { span, ranks } => RankMap::Linear(part_of(
+                *span, *ranks, rank.0,
+            )).local_of(global),
+        }
+    }
 }
 
 impl RankMap<'_> {
@@ -103,7 +120,8 @@ impl RankMap<'_> {
 
     /// The local place of a global index. `None` exactly where the rank does not map it.
     pub fn local_of(&self, global: u32) -> Option<u32>
-        ensures { result ≡ position (λ i. i == global) (mapped self.now) }
+        ensures place { result ≡ position (λ i. i == global) (mapped self.now) }
+        ensures indices { are_indices (mapped self.now) ≡ true }
     {
         match self {
             RankMap::Linear(span) => span.local_of(global),

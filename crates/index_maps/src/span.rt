@@ -83,7 +83,8 @@ impl Span {
     /// The local place of an index, where it is in the span.
     #[tactic(auto, using(crate::proofs::Ranges::position_within, crate::proofs::Ranges::position_outside))]
     pub fn local_of(self, global: u32) -> Option<u32>
-        ensures { result ≡ position (λ i. i == global) (range_with_len self.base self.size) }
+        ensures place { result ≡ position (λ i. i == global) (range_with_len self.base self.size) }
+        ensures limit { self.base + self.size ≤ INDEX_LIMIT }
     {
         if self.holds(global) {
             Some(global - self.base())

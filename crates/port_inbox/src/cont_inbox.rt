@@ -1,17 +1,15 @@
-ghost use Rattle.std.specs.Prelude.{◌≡◌, ◌+◌, ◌-◌, ◌*◌, ◌/◌, ◌%◌, ◌^◌, ◌<◌, ◌≤◌, ◌==◌, ◌⊎◌, ℕ, ℤ, [], length, map, min, nat_lt, if◌then◌else◌, pos, negsuc, ◌+ℤ◌, ◌-ℤ◌, ◌*ℤ◌, ◌≤ℤ◌, IfOk, IfSome, OnOk, ◌++◌};
+ghost use Rattle.std.specs.Prelude.{◌≡◌, ◌+◌, ◌-◌, ◌*◌, ◌/◌, ◌%◌, ◌^◌, ◌<◌, ◌≤◌, ◌==◌, ◌⊎◌, ℕ, ℤ, [], length, map, min, nat_lt, if◌then◌else◌, pos, negsuc, ◌+ℤ◌, ◌-ℤ◌, ◌*ℤ◌, ◌≤ℤ◌, IfOk, IfSome};
 ghost use Rattle.music_base.specs.Numbers.{floor_div};
 ghost use Rattle.scene_model.specs.Tables.{Table, reading, value, value_in};
 ghost use Rattle.scene_model.specs.declared.scene.Scene.{Scene};
-ghost use Rattle.index_maps.specs.Intervals.{interval_indices};
-ghost use Rattle.index_maps.specs.Maps.{indices};
 ghost use Rattle.port_inbox.specs.Due.{items_numbered};
-ghost use Rattle.port_inbox.specs.KeptSamples.{AreIndices, value_kept};
+ghost use Rattle.port_inbox.specs.KeptSamples.{value_kept};
 ghost use Rattle.port_inbox.specs.Samples.{IsPlaceOf, IsSampled, fresh_samples, point, read, sample_at, with_sample};
 
 use crate::kept_samples::KeptSamples;
 use crate::points::{fill_points, weight_of};
-use index_maps::{Interval, PortMap};
-use music_base::{Block, Items, Nanos, NoMemory, Sample};
+use index_maps::PortMap;
+use music_base::{Block, Nanos, NoMemory, Sample};
 use std::alloc::Global;
 use std::marker::Model;
 
@@ -40,29 +38,6 @@ impl Model for ContInbox {
     ghost invariant = { λ a. AreReadable a.delay a.send_tick a.receive_tick a.send_start a.receive_start a.samples };
 }
 
-fn push_indices(list: &mut Items<u32>, interval: Interval) -> Result<(), NoMemory>
-    requires { interval.first ≤ interval.after }
-    ensures { OnOk result (list.new ≡ list.old ++ interval_indices interval) }
-{
-    for index in interval.first..interval.after {
-        list.push(index)?;
-    }
-    Ok(())
-}
-
-/// The indices that a map has, ascending.
-fn indices_of(alloc: Global, map: &PortMap) -> Result<Items<u32>, NoMemory>
-    ensures same { IfOk result (λ list. list ≡ indices map.now) }
-    ensures ascend { IfOk result (λ list. AreIndices list) }
-{
-    let intervals = map.intervals(alloc)?;
-    let mut list = Items::new(alloc);
-    for interval in intervals.as_slice() {
-        push_indices(&mut list, *interval)?;
-    }
-    Ok(list)
-}
-
 impl ContInbox {
     /// An inbox to which no block was admitted. The sender's map says which indices its blocks have values of.
     ///
@@ -84,7 +59,8 @@ impl ContInbox {
         requires receive_start { receive_start ≤ 10 ^ 15 }
         ensures { IfOk result (λ inbox. inbox ≡ fresh_samples delay interpolate send_tick receive_tick send_start receive_start) }
     {
-        let samples = KeptSamples::new(indices_of(alloc, sender)?);
+        let indices = sender.indices(alloc)?;
+        let samples = KeptSamples::new(indices);
         Ok(ContInbox {
             delay: delay.0,
             interpolate,

@@ -1,7 +1,6 @@
 //! The plan of an application's turns: names and indices looked up once.
-ghost use Rattle.std.specs.Prelude.{◌≡◌, ◌<◌, ◌≤◌, ◌++◌, ◌∷◌, [], IfOk, OnOk, length, map, slice_index_or, ◌==◌};
-ghost use Rattle.std.specs.List.{flat_map, position};
-ghost use Rattle.index_maps.specs.Intervals.{interval_indices};
+ghost use Rattle.std.specs.Prelude.{◌≡◌, ◌==◌, ◌<◌, ◌≤◌, [], IfOk, length, map, slice_index_or};
+ghost use Rattle.std.specs.List.{position};
 ghost use Rattle.scene_model.specs.Turns.{same_name, target_of};
 ghost use Rattle.scene_model.specs.declared.port.PortDecl.{PortDecl};
 ghost use Rattle.rule_turns.specs.OneRule.{source_of};
@@ -20,7 +19,6 @@ ghost use Rattle.rule_turns.specs.Plans.{
 };
 
 use crate::{PortUses, RuleUse, TurnPlan};
-use index_maps::Interval;
 use music_base::{Items, NoMemory, TryCopy};
 use scene_model::{PortDecl, PortKind, Rule};
 use std::alloc::Global;
@@ -89,35 +87,12 @@ fn index_place(indices: &[u32], index: u32) -> usize
     first_index(indices, index).unwrap_or(indices.len())
 }
 
-fn push_indices(out: &mut Vec<u32>, interval: Interval) -> Result<(), NoMemory>
-    ensures { OnOk result (out.new.items ≡ out.old.items ++ interval_indices interval) }
-{
-    for index in interval.first..interval.after {
-        out.push(index)?;
-    }
-    Ok(())
-}
-
-/// All indices of the intervals, in order.
-fn listed(alloc: Global, intervals: &[Interval]) -> Result<Items<u32>, NoMemory>
-    ensures { IfOk result (λ out. out ≡ flat_map interval_indices intervals.now) }
-{
-    let mut out = Vec::new(alloc);
-    for interval in intervals {
-        push_indices(&mut out, *interval)?;
-    }
-    Ok(Items::from_vec(out))
-}
-
 /// The indices for which a block of the port has a value.
 fn value_indices(alloc: Global, port: &PortDecl) -> Result<Items<u32>, NoMemory>
     ensures { IfOk result (λ indices. indices ≡ value_indices port.now.kind port.now.map) }
 {
     match port.kind {
-        PortKind::Values => {
-            let intervals = port.map.intervals(alloc)?;
-            listed(alloc, intervals.as_slice())
-        }
+        PortKind::Values => port.map.indices(alloc),
         PortKind::Events | PortKind::Messages => Ok(Items::new(alloc)),
     }
 }

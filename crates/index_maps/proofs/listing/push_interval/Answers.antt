@@ -1,6 +1,6 @@
 use Rattle.std.proofs.Common.{◌≡◌, ◌+◌, ◌-◌, refl, arith, append_assoc}
 use Rattle.music_base.proofs.Lists.{range_with_len-more}
-use Rattle.app_turn.proofs.shaping.push_indices.Goals as goal
+use Rattle.index_maps.proofs.listing.push_interval.Goals as goal
 
 pub loop-index-preserved : goal.loop-index-preserved
 loop-index-preserved c =
