@@ -1,0 +1,6 @@
+pub mod Exact
+pub mod Faulty
+pub mod Given
+pub mod Lexed
+pub mod Seen
+pub mod Subcommand
