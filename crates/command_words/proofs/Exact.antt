@@ -4,13 +4,12 @@ use Rattle.std.specs.Prelude.{slice_get, option_and_then, bytes_eq, find, fold}
 use Rattle.std.specs.Str.{chars}
 use Rattle.std.specs.List.{list_any}
 use Rattle.std.specs.Option.{option_map}
-use Rattle.std.proofs.lemmas.Slice.Eq.{bytes_eq-Decides}
 use Rattle.clap.specs.Kinds.{Kinds, or_else}
 use Rattle.clap.specs.Walk.{Held, Row, Rule, Text, Walk, answers_to, arg_by_id, arg_by_long, bundle_met, finished, has_row, idle, nothing_held, plain, rows_after, settled, subcommand_met, walk_from, walked, with_default}
 use Rattle.clap.specs.Simple.{App, Shape, built, entered, label_of, names_of, new_shape, subcommand_of}
 use Rattle.clap.specs.Faults.{check_fault, default_fault, defaults_fault, entered_fault, fault_of, flags_fault, given_default_fault, level_fault, settle_fault, turn_fault, walk_fault}
 use Rattle.clap.specs.declared.error.kind.ErrorKind.TheVariants as kind
-use Rattle.command_words.specs.Words.{Options, alone, command_named, command_of, load_command, no_options, number_in, number_within, options_of, run_command, workers_in}
+use Rattle.command_words.specs.Words.{Options, alone, command_named, command_of, load_command, no_options, number_in, options_of, run_command, workers_in}
 use Rattle.command_words.specs.Forms.{command_in, command_matched, forms, options_in}
 use Rattle.command_words.specs.declared.command.Command.{Command}
 use Rattle.command_words.specs.declared.command.Command.TheVariants.{Check, Plan, Order, Run, Load}
@@ -36,14 +35,20 @@ ready = record {
 built_is : built forms ≡ ready
 built_is = refl
 
-same_or_not : (a b : Text) → ((a ≡ b) × (bytes_eq a b ≡ true)) ⊎ ((bytes_eq a b ≡ false) × (bytes_eq b a ≡ false))
-same_or_not a b = go (bytes_eq a b) (bytes_eq b a) refl refl
-  where
-    go : (t u : Bool) → bytes_eq a b ≡ t → bytes_eq b a ≡ u → ((a ≡ b) × (bytes_eq a b ≡ true)) ⊎ ((bytes_eq a b ≡ false) × (bytes_eq b a ≡ false))
-    go true u e f = inl (same_text a b e, e)
-    go false false e f = inr (e, f)
-    go false true e f = absurd (true≢false (sym ((bytes_eq-Decides a b).1 (sym (same_text b a f))) ∙ e))
+-- whether two texts are the same, tested either way round
+data Compared (a b : Text) : Type 0 where
+  same : a ≡ b → Compared a b
+  differ : bytes_eq a b ≡ false → bytes_eq b a ≡ false → Compared a b
 
+compared : (a b : Text) → Compared a b
+compared a b = go (bytes_eq a b) (bytes_eq b a) refl refl
+  where
+    go : (there back : Bool) → bytes_eq a b ≡ there → bytes_eq b a ≡ back → Compared a b
+    go true back is same_back = same (same_text a b is)
+    go false true is same_back = same (sym (same_text b a same_back))
+    go false false is same_back = differ is same_back
+
+-- which command a word names, if any
 data Named (word : Text) : Type 0 where
   is_check : word ≡ codes "check" → Named word
   is_plan : word ≡ codes "plan" → Named word
@@ -53,33 +58,19 @@ data Named (word : Text) : Type 0 where
   is_none : subcommand_met (names_of ready) idle word ≡ None → ((words : List Text) → command_named word words ≡ None) → Named word
 
 named : (word : Text) → Named word
-named word = one (same_or_not word (codes "check"))
+named word =
+    go (compared word (codes "check")) (compared word (codes "plan")) (compared word (codes "order"))
+    (compared word (codes "run")) (compared word (codes "load"))
   where
-    five : bytes_eq word (codes "check") ≡ false → bytes_eq (codes "check") word ≡ false → bytes_eq word (codes "plan") ≡ false → bytes_eq (codes "plan") word ≡ false
-        → bytes_eq word (codes "order") ≡ false → bytes_eq (codes "order") word ≡ false → bytes_eq word (codes "run") ≡ false → bytes_eq (codes "run") word ≡ false
-        → ((word ≡ codes "load") × (bytes_eq word (codes "load") ≡ true)) ⊎ ((bytes_eq word (codes "load") ≡ false) × (bytes_eq (codes "load") word ≡ false)) → Named word
-    five a b c d e f g h (inl i) = is_load i.0
-    five a b c d e f g h (inr i) = is_none (rw (b, d, f, h, i.1) refl) (λ words. rw (a, c, e, g, i.0) refl)
-
-    four : bytes_eq word (codes "check") ≡ false → bytes_eq (codes "check") word ≡ false → bytes_eq word (codes "plan") ≡ false → bytes_eq (codes "plan") word ≡ false
-        → bytes_eq word (codes "order") ≡ false → bytes_eq (codes "order") word ≡ false
-        → ((word ≡ codes "run") × (bytes_eq word (codes "run") ≡ true)) ⊎ ((bytes_eq word (codes "run") ≡ false) × (bytes_eq (codes "run") word ≡ false)) → Named word
-    four a b c d e f (inl i) = is_run i.0
-    four a b c d e f (inr i) = five a b c d e f i.0 i.1 (same_or_not word (codes "load"))
-
-    three : bytes_eq word (codes "check") ≡ false → bytes_eq (codes "check") word ≡ false → bytes_eq word (codes "plan") ≡ false → bytes_eq (codes "plan") word ≡ false
-        → ((word ≡ codes "order") × (bytes_eq word (codes "order") ≡ true)) ⊎ ((bytes_eq word (codes "order") ≡ false) × (bytes_eq (codes "order") word ≡ false)) → Named word
-    three a b c d (inl i) = is_order i.0
-    three a b c d (inr i) = four a b c d i.0 i.1 (same_or_not word (codes "run"))
-
-    two : bytes_eq word (codes "check") ≡ false → bytes_eq (codes "check") word ≡ false
-        → ((word ≡ codes "plan") × (bytes_eq word (codes "plan") ≡ true)) ⊎ ((bytes_eq word (codes "plan") ≡ false) × (bytes_eq (codes "plan") word ≡ false)) → Named word
-    two a b (inl i) = is_plan i.0
-    two a b (inr i) = three a b i.0 i.1 (same_or_not word (codes "order"))
-
-    one : ((word ≡ codes "check") × (bytes_eq word (codes "check") ≡ true)) ⊎ ((bytes_eq word (codes "check") ≡ false) × (bytes_eq (codes "check") word ≡ false)) → Named word
-    one (inl i) = is_check i.0
-    one (inr i) = two i.0 i.1 (same_or_not word (codes "plan"))
+    go : Compared word (codes "check") → Compared word (codes "plan") → Compared word (codes "order")
+        → Compared word (codes "run") → Compared word (codes "load") → Named word
+    go (same is) p o r l = is_check is
+    go (differ c c') (same is) o r l = is_plan is
+    go (differ c c') (differ p p') (same is) r l = is_order is
+    go (differ c c') (differ p p') (differ o o') (same is) l = is_run is
+    go (differ c c') (differ p p') (differ o o') (differ r r') (same is) = is_load is
+    go (differ c c') (differ p p') (differ o o') (differ r r') (differ l l') =
+        is_none (rw (c', p', o', r', l') refl) (λ words. rw (c, p, o, r, l) refl)
 
 -- ---- a first word that names no command
 

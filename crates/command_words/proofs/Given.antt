@@ -1,6 +1,6 @@
 -- What is given to the two options, on both sides: by the definition, and in the rows of `clap`'s matches. Where a lemma
 -- serves either option, `true` stands for `--workers` and `false` for `--number`.
-use Rattle.std.proofs.Common.{◌≡◌, ◌∙◌, ◌⊎◌, inl, inr, ℕ, zero, suc, ◌+◌, Bool, true, false, cond, List, [], ◌∷◌, ◌++◌, Option, Some, None, is_some, length, take, drop, ap, sym, refl, subst, arith, true≢false, codes, ◌||◌, ◌&&◌, nat_le, nat_eq}
+use Rattle.std.proofs.Common.{◌≡◌, ◌∙◌, ℕ, Bool, true, false, cond, List, [], ◌∷◌, ◌++◌, Option, Some, None, is_some, length, ap, sym, refl, subst, true≢false, codes, ◌||◌, ◌&&◌, nat_le}
 use Rattle.std.specs.Prelude.{slice_get, option_and_then, bytes_eq, find}
 use Rattle.std.specs.Str.Parse.{digits_value}
 use Rattle.clap.specs.Walk.{Row, Rule, Text, first_of, has_row, used, without, at_row, with_values, reading_by, more_values}

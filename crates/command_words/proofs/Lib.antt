@@ -4,3 +4,4 @@ pub mod Given
 pub mod Lexed
 pub mod Seen
 pub mod Subcommand
+pub mod Within

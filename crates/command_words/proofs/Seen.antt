@@ -1,5 +1,5 @@
 -- What a word is: to `clap`'s lexer, and to the definition.
-use Rattle.std.proofs.Common.{◌≡◌, ◌∙◌, ◌⊎◌, inl, inr, ℕ, zero, suc, ◌+◌, Bool, true, false, cond, List, [], ◌∷◌, ◌++◌, Option, Some, None, is_some, length, take, drop, ap, sym, refl, subst, arith, true≢false, codes, ◌||◌, ◌&&◌, nat_le, nat_eq}
+use Rattle.std.proofs.Common.{◌≡◌, ◌∙◌, ℕ, suc, Bool, true, false, List, ◌∷◌, ◌++◌, Option, Some, None, length, take, drop, ap, sym, refl, arith, true≢false, codes, ◌||◌, nat_eq}
 use Rattle.std.specs.Prelude.{slice_get, bytes_eq}
 use Rattle.std.specs.Str.{chars}
 use Rattle.std.specs.List.{list_any, starts_with}

@@ -1,5 +1,5 @@
 -- A subcommand: what `clap` makes of the words behind its name, and what the definition makes of them.
-use Rattle.std.proofs.Common.{◌≡◌, ◌∙◌, ◌⊎◌, inl, inr, ℕ, zero, suc, ◌+◌, Bool, true, false, cond, List, [], ◌∷◌, ◌++◌, Option, Some, None, is_some, length, take, drop, ap, sym, refl, subst, arith, true≢false, codes, ◌||◌, ◌&&◌, nat_le, nat_eq}
+use Rattle.std.proofs.Common.{◌≡◌, ◌∙◌, ◌⊎◌, inl, inr, ℕ, zero, suc, Bool, true, false, cond, List, [], ◌∷◌, ◌++◌, Option, Some, None, is_some, length, ap, sym, refl, subst, true≢false, ◌||◌}
 use Rattle.std.specs.Prelude.{slice_get, option_and_then, bytes_eq, fold}
 use Rattle.std.specs.Str.{chars}
 use Rattle.std.specs.List.{list_any}

@@ -1,7 +1,8 @@
 //! The command that words give.
-ghost use Rattle.std.specs.Prelude.{◌≡◌, IfOk, bytes_eq, codes, string_bytes};
+ghost use Rattle.std.specs.Prelude.{◌≡◌, IfOk, IfSome, bytes_eq, codes, string_bytes};
 ghost use Rattle.std.specs.List.{list_any};
 ghost use Rattle.clap.specs.Words.{found_of, rows_of, subcommand_rows_of};
+ghost use Rattle.command_words.specs.Commands.{IsWithinLimits};
 ghost use Rattle.command_words.specs.Forms.{command_in, options_in};
 ghost use Rattle.command_words.specs.Words.{
   command_of,
@@ -91,7 +92,8 @@ fn has_dashes(words: &[String]) -> bool
 /// `docs/format.md` has the forms under "The words". The only error is want of memory, of which `clap` asks some for every
 /// list of words in which none is `--`.
 pub fn command_of(alloc: Global, words: &[String]) -> Result<Option<Command>, NoMemory>
-    ensures { IfOk result (λ command. command ≡ command_of (texts words.now)) }
+    ensures command { IfOk result (λ command. command ≡ command_of (texts words.now)) }
+    ensures limits { IfOk result (λ command. IfSome command IsWithinLimits) }
 {
     if has_dashes(words) {
         return Ok(None);

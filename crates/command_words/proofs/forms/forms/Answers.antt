@@ -1,4 +1,4 @@
-use Rattle.std.proofs.Common.{ap, ap₂, ◌≡◌, ◌∙◌}
+use Rattle.std.proofs.Common.{ap, ap₂, ◌∙◌}
 use Rattle.clap.specs.Simple.{App, Shape, with_subcommand}
 use Rattle.command_words.proofs.forms.forms.Goals as goal
 

@@ -1,4 +1,4 @@
-use Rattle.std.proofs.Common.{◌≡◌, ◌∙◌, ℕ, List, Bor, Option, option_map, ap, sym, codes, Some, None}
+use Rattle.std.proofs.Common.{◌≡◌, ◌∙◌, Bor, Option, option_map, ap, sym, codes, Some, None}
 use Rattle.clap.specs.Words.{first_of, rows_of, found_of, Text}
 use Rattle.clap.proofs.WalkLemmas.{first_value-rows}
 use Rattle.command_words.proofs.words.number_in.Goals as goal
