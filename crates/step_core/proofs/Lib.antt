@@ -1,4 +1,11 @@
 pub mod Ends
+pub mod Finding
 pub mod Histories
+pub mod Opening
 pub mod Owning
+pub mod Puts
 pub mod Rooms
+pub mod Rows
+pub mod Runs
+pub mod Takes
+pub mod Tests

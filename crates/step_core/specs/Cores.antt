@@ -1,5 +1,5 @@
 -- What contracts see of a core, and what is true of its parts.
-use Rattle.std.specs.Prelude.{ℕ, ℤ, ◌-◌, ◌<◌, ◌≤◌, ◌≡◌, ◌++◌, ◌↔◌, min, max, List, [], length, map, replicate, slice_index, slice_index_or}
+use Rattle.std.specs.Prelude.{ℕ, ℤ, ⊥, ◌-◌, ◌<◌, ◌≤◌, ◌≡◌, ◌++◌, ◌↔◌, min, max, List, [], length, map, replicate, slice_index, slice_index_or}
 use Rattle.std.specs.List.{flat_map, range_with_len}
 use Rattle.circular_buffer.specs.Buffer.{Buffer, buffer}
 use Rattle.music_base.specs.Numbers.{below, in_order}
@@ -8,7 +8,7 @@ use Rattle.scene_model.specs.Clocks.{clock, steps, wanted_blocks}
 use Rattle.scene_model.specs.Faults.{IsFaultless}
 use Rattle.scene_model.specs.Lives.{history}
 use Rattle.scene_model.specs.Logs.{row_cmp, rows, step_rows}
-use Rattle.scene_model.specs.Orders.{AllFinished, Counts, IsAllowed, IsLawful, IsSound, after, after_all, opening_counts, put_on, run_by, taken_from}
+use Rattle.scene_model.specs.Orders.{AllFinished, CanPut, CanTake, Counts, IsAllowed, IsLawful, IsSound, after, after_all, opening_counts, put_on, run_by, taken_from}
 use Rattle.scene_model.specs.Scenes.{receiver, sender}
 use Rattle.scene_model.specs.Waits.{Fits}
 use Rattle.scene_model.specs.declared.act.Act.{Act}
@@ -148,6 +148,10 @@ opened scene limits = record { scene = scene; limits = limits; counts = opening_
 
 abbrev pub Can : CoreView → Act → Type 0
 Can core act = IsAllowed core.scene core.limits core.counts act
+
+-- no block can be taken from the connection, and none put on it
+abbrev pub IsStill : CoreView → ℕ → Type 0
+IsStill core c = (CanTake core.scene core.counts c → ⊥) × (CanPut core.scene core.limits core.counts c → ⊥)
 
 -- the core did this act, and nothing else that contracts see changed
 abbrev pub did : CoreView → Act → CoreView

@@ -2,5 +2,8 @@
 #![tactic(auto)]
 
 mod laws;
+mod scene_core;
+mod starts;
 
 pub use laws::puts_find_room;
+pub use scene_core::Core;
