@@ -2,7 +2,7 @@
 ghost use Rattle.std.specs.Prelude.{◌≡◌, ◌<◌, ◌↔◌, ℕ, IfOk, IsTrue, MatchResult, length};
 ghost use Rattle.std.specs.Arc.{arc_value};
 ghost use Rattle.music_base.specs.declared.item.Block.{Block};
-ghost use Rattle.scene_model.specs.Clocks.{clock};
+ghost use Rattle.scene_model.specs.Clocks.{clock, steps};
 ghost use Rattle.scene_model.specs.Faults.{IsFaultless};
 ghost use Rattle.scene_model.specs.Scenes.{app_at};
 ghost use Rattle.scene_model.specs.Turns.{opening};
@@ -179,6 +179,13 @@ impl AppMachine {
         ensures { IsTrue result ↔ HasFinished self.now }
     {
         self.ran == self.last && all_put(&self.out, &self.pending)
+    }
+
+    /// Whether a step is left to run.
+    pub fn has_step(&self) -> bool
+        ensures { IsTrue result ↔ (self.now.ran < steps self.now.scene self.now.app) }
+    {
+        self.ran < self.last
     }
 
     /// The clock of the next step, in ns, and after the last step the clock at which one more would run.
