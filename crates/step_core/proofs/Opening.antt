@@ -47,7 +47,7 @@ module _ (scene : Scene) (limits : List ℕ) (faultless : IsFaultless scene) (pl
     released_counted = length-replicate (length scene.apps) 0;
     held_counted = length-replicate {A = List Row} (length scene.apps) [];
     were_run = λ a app. omega (arith, zero_at (length scene.apps) a);
-    are_past = λ a k app low. absurd (omega (arith, zero_at (length scene.apps) a, low));
+    in_front = λ a b j k app other low ge small. absurd (omega (arith, zero_at (length scene.apps) a, low));
     each = λ a app. get_or-replicate {A = List Row} (length scene.apps) a [] [] app ∙ sym (ap (λ n. past_rows scene a n (run_by (opening_counts scene) a)) (zero_at (length scene.apps) a) ∙ ap (past_rows scene a 0) (zero_at (length scene.apps) a));
   }
 

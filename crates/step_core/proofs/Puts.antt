@@ -59,7 +59,7 @@ module _ (scene : Scene) (limits : List ℕ) (s : Counts) (released : List ℕ) 
       follow = follow_with scene limits s released machines rings held core (sender scene c) m r-small (gave.follows (history scene) (core.follow (sender scene c) r-small));
       rings_counted = length-set rings c ring ∙ core.rings_counted;
       each_ring = rings_with scene limits s released machines rings held core c (after s (Put c)) ring can.link is (λ d ne. one_more-other s.put c d ne) (λ d ne. refl);
-      are_held = record { released_counted = core.are_held.released_counted; held_counted = core.are_held.held_counted; were_run = core.are_held.were_run; are_past = core.are_held.are_past; each = core.are_held.each };
+      are_held = record { released_counted = core.are_held.released_counted; held_counted = core.are_held.held_counted; were_run = core.are_held.were_run; in_front = core.are_held.in_front; each = core.are_held.each };
     }
       where
         is : IsRing scene limits (after s (Put c)) c ring

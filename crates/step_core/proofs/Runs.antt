@@ -4,10 +4,8 @@ use Rattle.std.specs.Prelude.{slice_index, slice_index_or}
 use Rattle.std.proofs.lemmas.Bool.{cases_eq}
 use Rattle.std.proofs.lemmas.List.{set-get_or}
 use Rattle.std.proofs.Math.ListN.{length-set}
-use Rattle.std.proofs.Math.Nat.{lt_trans}
 use Rattle.circular_buffer.specs.Buffer.{Buffer}
 use Rattle.music_base.specs.declared.item.Block.{Block}
-use Rattle.scene_model.specs.Clocks.{clock, steps}
 use Rattle.scene_model.specs.Lives.{history}
 use Rattle.scene_model.specs.Logs.{step_rows}
 use Rattle.scene_model.specs.Orders.{CanRun, Counts, after, one_more, run_by}
@@ -20,7 +18,7 @@ use Rattle.app_turn.specs.Machines.{Machine}
 use Rattle.app_turn.specs.Moves.{Ran}
 use Rattle.step_core.specs.Cores.{AreHeld, IsCore, counts_of, machine_at, no_machine, past_rows}
 use Rattle.step_core.proofs.Owning.{own-counts, ran_own}
-use Rattle.step_core.proofs.Rows.{clocks_ascend, past_rows-last, past_rows-stand}
+use Rattle.step_core.proofs.Rows.{past_rows-last, past_rows-stand}
 use Rattle.step_core.proofs.Takes.{follow_with, same_machine}
 
 module _ (scene : Scene) (limits : List ℕ) (s : Counts) (released : List ℕ) (machines : List Machine) (rings : List (Buffer Block)) (held : List (List Row)) (core : IsCore scene limits s released machines rings held) where
@@ -40,7 +38,7 @@ module _ (scene : Scene) (limits : List ℕ) (s : Counts) (released : List ℕ) 
       released_counted = core.are_held.released_counted;
       held_counted = length-set held a _ ∙ core.are_held.held_counted;
       were_run = λ b app. were b app (cases_eq b a);
-      are_past = λ b k app low x small left. past b k app low x small left (cases_eq x a);
+      in_front = core.are_held.in_front;
       each = λ b app. each b app (cases_eq b a);
     }
       where
@@ -50,22 +48,6 @@ module _ (scene : Scene) (limits : List ℕ) (s : Counts) (released : List ℕ) 
         were : (b : ℕ) → b < length scene.apps → (b ≡ a) ⊎ (b ≡ a → ⊥) → slice_index released b ≤ slice_index (one_more s.run a) b
         were b app (inl e) = let F : ℕ → Type 0 = λ x. slice_index released x ≤ slice_index (one_more s.run a) x in subst F (sym e) (omega (arith, at, core.are_held.were_run a can.app))
         were b app (inr ne) = omega (arith, one_more-other s.run a b ne, core.are_held.were_run b app)
-
-        -- the clock of the application that ran is a later one
-        past : (b k : ℕ) → b < length scene.apps → k < slice_index released b → (x : ℕ) → x < length scene.apps → slice_index (one_more s.run a) x < steps scene x → (x ≡ a) ⊎ (x ≡ a → ⊥)
-            → clock scene b k < clock scene x (slice_index (one_more s.run a) x)
-        past b k app low x small left (inl e) =
-            let before : clock scene b k < clock scene a (run_by s a) = core.are_held.are_past b k app low a can.app can.step_left in
-            let more : clock scene a (run_by s a) < clock scene a (run_by s a + 1) = clocks_ascend scene core.faultless a (run_by s a) (run_by s a + 1) (omega arith) in
-            let now : clock scene b k < clock scene a (run_by s a + 1) = lt_trans before more in
-            let F : ℕ → Type 0 = λ y. clock scene b k < clock scene y (slice_index (one_more s.run a) y) in
-            let G : ℕ → Type 0 = λ n. clock scene b k < clock scene a n in
-            subst F (sym e) (subst G (sym at) now)
-        past b k app low x small left (inr ne) =
-            let same : slice_index (one_more s.run a) x ≡ run_by s x = one_more-other s.run a x ne in
-            let G : ℕ → Type 0 = λ n. clock scene b k < clock scene x n in
-            let L : ℕ → Type 0 = λ n. n < steps scene x in
-            subst G (sym same) (core.are_held.are_past b k app low x small (subst L same left))
 
         here : rows_of (slice_set held a (rows_of held a ++ rows)) a ≡ past_rows scene a (slice_index released a) (slice_index (one_more s.run a) a)
         here =

@@ -106,7 +106,7 @@ module _ (scene : Scene) (limits : List ℕ) (s : Counts) (released : List ℕ) 
       follow = follow_with (receiver scene c) m r-small (took.follows (history scene) (core.follow (receiver scene c) r-small) has block);
       rings_counted = length-set rings c ring ∙ core.rings_counted;
       each_ring = rings_with c (after s (Take c)) ring can.link is (λ d ne. refl) (λ d ne. one_more-other s.taken c d ne);
-      are_held = record { released_counted = core.are_held.released_counted; held_counted = core.are_held.held_counted; were_run = core.are_held.were_run; are_past = core.are_held.are_past; each = core.are_held.each };
+      are_held = record { released_counted = core.are_held.released_counted; held_counted = core.are_held.held_counted; were_run = core.are_held.were_run; in_front = core.are_held.in_front; each = core.are_held.each };
     }
       where
         old : Machine

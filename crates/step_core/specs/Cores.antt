@@ -1,5 +1,5 @@
 -- What contracts see of a core, and what is true of its parts.
-use Rattle.std.specs.Prelude.{ℕ, ℤ, ⊥, ◌-◌, ◌<◌, ◌≤◌, ◌≡◌, ◌++◌, ◌↔◌, min, max, List, [], length, map, replicate, slice_index, slice_index_or}
+use Rattle.std.specs.Prelude.{ℕ, ℤ, ◌-◌, ◌<◌, ◌≤◌, ◌≡◌, ◌++◌, ◌↔◌, min, max, List, [], length, map, replicate, slice_index, slice_index_or}
 use Rattle.std.specs.List.{flat_map, range_with_len}
 use Rattle.circular_buffer.specs.Buffer.{Buffer, buffer}
 use Rattle.music_base.specs.Numbers.{below, in_order}
@@ -89,13 +89,14 @@ past_rows scene a from to = flat_map (step_rows scene (history scene) a) (range_
 abbrev pub IsPast : Scene → Counts → ℕ → ℕ → Type 0
 IsPast scene s a k = (b : ℕ) → b < length scene.apps → run_by s b < steps scene b → clock scene a k < clock scene b (run_by s b)
 
--- of each application the first steps, all of them past, have handed out their rows, and the rows of the other steps that were
--- run are held
+-- Of each application the first steps have handed out their rows, and each of these lies before every step whose rows were not
+-- handed out. The rows of the other steps that were run are held.
 pub record AreHeld (scene : Scene) (s : Counts) (released : List ℕ) (held : List (List Row)) : Type 0 where
   pub released_counted : length released ≡ length scene.apps
   pub held_counted : length held ≡ length scene.apps
   pub were_run : (a : ℕ) → a < length scene.apps → slice_index released a ≤ run_by s a
-  pub are_past : (a k : ℕ) → a < length scene.apps → k < slice_index released a → IsPast scene s a k
+  pub in_front : (a b j k : ℕ) → a < length scene.apps → b < length scene.apps →
+      j < slice_index released a → slice_index released b ≤ k → k < steps scene b → clock scene a j < clock scene b k
   pub each : (a : ℕ) → a < length scene.apps → rows_of held a ≡ past_rows scene a (slice_index released a) (run_by s a)
 
 -- ---- the core
@@ -141,6 +142,8 @@ pub record Released (before : CoreView) (handed : List Row) (after : CoreView) :
   pub each : (a k : ℕ) → a < length before.scene.apps → k < run_by before.counts a →
       (k < slice_index after.released a) ↔ IsPast before.scene before.counts a k
   pub begins : BeginsLog after
+  -- where nothing is left to do, all rows of the log were handed out
+  pub all : AllFinished before.scene before.counts → rows_out after ≡ rows before.scene (history before.scene)
 
 -- nothing was done
 abbrev pub opened : Scene → List ℕ → CoreView
