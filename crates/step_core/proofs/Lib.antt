@@ -9,3 +9,7 @@ pub mod Rows
 pub mod Runs
 pub mod Takes
 pub mod Tests
+pub mod PastRows
+pub mod Growing
+pub mod Releases
+pub mod NextClocks

@@ -2,8 +2,9 @@
 #![tactic(auto)]
 
 mod laws;
+mod releasing;
 mod scene_core;
 mod starts;
 
-pub use laws::puts_find_room;
+pub use laws::{cores_begin_the_log, puts_find_room};
 pub use scene_core::Core;
