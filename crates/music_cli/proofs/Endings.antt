@@ -1,15 +1,15 @@
 -- What each way to end says of the status and of the text.
 use Rattle.std.proofs.Common.{◌≡◌, ◌⊎◌, ℕ, ◌<◌, ◌≤◌, lit<, Bool, true, false, List, [], ◌++◌, length, take, Option, Some, None, refl, sym, ap, subst, ◌∙◌, inl, inr, arith, append-nil}
-use Rattle.std.specs.Prelude.{◌≢◌, is_some, Contains}
+use Rattle.std.specs.Prelude.{◌≢◌}
 use Rattle.std.proofs.lemmas.Bool.{cases_lt}
 use Rattle.std.proofs.lemmas.List.{take_all}
 use Rattle.std.proofs.Math.Seq.{take-append_seam}
 use Rattle.music_base.specs.Outside.{Gave, GaveAtMost, TookPrefix, IsAtEnd}
 use Rattle.music_base.proofs.Transfers.{TookPrefix-nothing}
 use Rattle.music_cli.specs.Words.{command_of, are_accepted}
-use Rattle.music_cli.specs.Answers.{AnswersCommand, Answers, CanDo, can_end, number_of, usage_text, read_fault_text}
+use Rattle.music_cli.specs.Answers.{Answers, CanDo, can_end, number_of, usage_text, read_fault_text}
 use Rattle.music_cli.specs.Clauses.{Ends, DidNotFail, NotUsage, HasReadFaultCause, HasWriteFaultCause, ShowsFaults, Untouched, Wrote, most_read, read_part, IsStatus, IsUsage, AnswersWhatWasRead, ReadAllThatCounts, WasRead, HasSomePrefix, HasAnswer, HasPrefix, IsComplete, IsSaid, IsRead, Ended, refused, source_failed, no_memory, answered}
-use Rattle.music_cli.proofs.SomeAnswers.{some_answer, text_done, usage_answer}
+use Rattle.music_cli.proofs.SomeAnswers.{command_done, some_answer, usage_answer}
 use Rattle.music_cli.proofs.Outcomes.{answer_outcome, memory_outcome, no_failure, read_fault_outcome, usage_outcome, write_fault_outcome}
 use Rattle.music_cli.specs.declared.status.Status.{Status}
 use Rattle.music_cli.specs.declared.status.Status.TheVariants.{Done, Usage, ReadFault, WriteFault, NoMemory}
@@ -134,14 +134,12 @@ has_prefix words source sink status (answered accepted bytes read given) all is 
     (given.text, inl (given.status, subst (λ (b : List ℕ). Answers words b given.status given.text) e given.found_so), given.prefix)
 
 pub is_complete : (words : List (List ℕ)) (source sink : Ends) (status : Status) → Ended words source sink status → IsComplete words source sink (number_of status)
-is_complete words source sink status (refused not_so untouched said) command all named is can calm_source calm_sink =
-    absurd (not_both_so (are_accepted words) (ap is_some named) not_so)
-is_complete words source sink status (source_failed yes_accepted failed said) command all named is can calm_source calm_sink = absurd (calm_source failed)
-is_complete words source sink status (no_memory yes_accepted memory calm same) command all named is can calm_source calm_sink = inr (ap number_of memory)
-is_complete words source sink status (answered yes_accepted bytes read given) command all named is can calm_source calm_sink =
+is_complete words source sink status (refused not_so untouched said) all accepted is can calm_source calm_sink = absurd (not_both_so (are_accepted words) accepted not_so)
+is_complete words source sink status (source_failed yes_accepted failed said) all accepted is can calm_source calm_sink = absurd (calm_source failed)
+is_complete words source sink status (no_memory yes_accepted memory calm same) all accepted is can calm_source calm_sink = inr (ap number_of memory)
+is_complete words source sink status (answered yes_accepted bytes read given) all accepted is can calm_source calm_sink =
     let e : bytes ≡ read_part all = read_is source bytes all read is in
-    let answers : AnswersCommand (Some command) bytes given.status given.text = rw named at given.found_so in
-    let done_so : given.status ≡ Done = text_done command bytes given.status given.text (subst (CanDo command) (sym e) can) answers in
+    let done_so : given.status ≡ Done = command_done (command_of words) bytes given.status given.text accepted (subst CanDo (sym e) can) given.found_so in
     elim given.cases [
       | inl done ↦ inl (ap number_of (done.0 ∙ done_so))
       | inr gave_out ↦ elim gave_out [ inl fault ↦ absurd (calm_sink fault.1) | inr memory ↦ inr (ap number_of memory.0) ]

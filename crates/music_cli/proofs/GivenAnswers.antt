@@ -1,11 +1,9 @@
--- An answer that was given to a configuration or to a text.
-use Rattle.std.proofs.Common.{◌≡◌, ℕ, true, List, Option, Some, Ok, refl, sym, ap, subst, ◌∙◌, inr}
-use Rattle.std.specs.Prelude.{Result}
+-- An answer that was given to a scene, to a configuration or to a text.
+use Rattle.std.proofs.Common.{◌≡◌, ◌⊎◌, ℕ, true, List, Option, Some, Ok, refl, sym, ap, subst, ◌∙◌, inl, inr}
 use Rattle.music_base.proofs.Transfers.{TookPrefix-nothing}
 use Rattle.config_text.specs.Canon.{is_lawful_config}
 use Rattle.config_text.specs.declared.config.Config.{Config}
-use Rattle.plain_run.specs.declared.form.FirstForm.{FirstForm}
-use Rattle.config_text.specs.declared.text_kind.TextKind.{TextKind}
+use Rattle.scene_model.specs.Waits.{IsAccepted}
 use Rattle.scene_model.specs.declared.scene.Scene.{Scene}
 use Rattle.cycle_check.specs.CycleTexts.{cycle_text}
 use Rattle.music_setup.specs.Scenes.{scene_of}
@@ -15,61 +13,87 @@ use Rattle.music_setup.specs.declared.fault.SetupFault.TheVariants as setup
 use Rattle.music_setup.specs.Setups.{IsConfigFault}
 use Rattle.music_setup.proofs.SceneNames.{names_of_scene}
 use Rattle.music_cli.specs.Words.{command_of}
-use Rattle.music_cli.specs.Answers.{AnswersFault, AnswersUncovered, AnswersChecked, AnswersPlanned, AnswersScene, AnswersForm, AnswersText, AnswersCommand, Answers}
-use Rattle.music_cli.specs.Clauses.{Ends, IsGiven}
-use Rattle.music_cli.proofs.SomeAnswers.{form_answer, checked_answer, planned_answer, scene_answer, text_answer, lawful_is_faultless}
+use Rattle.music_cli.specs.Answers.{Answers, AnswersCommand, AnswersConfig, AnswersDone, AnswersFault, AnswersText, Writes}
+use Rattle.music_cli.specs.Clauses.{Ends, IsGiven, IsSaid, Wrote, WrotePrefix, Failed, DidNotFail}
+use Rattle.music_cli.proofs.SomeAnswers.{config_answer, text_answer}
 use Rattle.music_cli.specs.declared.command_line.Command.{Command}
 use Rattle.music_cli.specs.declared.status.Status.{Status}
-use Rattle.music_cli.specs.declared.status.Status.TheVariants.{NoMemory}
+use Rattle.music_cli.specs.declared.status.Status.TheVariants.{Done, NoMemory, WriteFault}
+
+-- ---- what a command writes of a scene
+
+module _ (command : Command) (scene : Scene) (text : List ℕ) (writes : Writes command scene text) (sink : Ends) where
+  -- it was said
+  pub done_said : (result : Status) → IsSaid Done text sink result → IsGiven (AnswersDone command scene) sink result
+  done_said result said = record { status = Done; text = text; found_so = (refl, writes); cases = either said.cases; prefix = said.prefix }
+    where
+      either : ((result ≡ Done) × Wrote text sink × DidNotFail sink) ⊎ ((result ≡ WriteFault) × Failed sink)
+          → ((result ≡ Done) × Wrote text sink × DidNotFail sink) ⊎ ((result ≡ WriteFault) × Failed sink) ⊎ ((result ≡ NoMemory) × DidNotFail sink)
+      either (inl done) = inl done
+      either (inr fault) = inr (inl fault)
+
+  -- it was written whole
+  pub done_whole : Wrote text sink → DidNotFail sink → WrotePrefix text sink → IsGiven (AnswersDone command scene) sink Done
+  done_whole wrote calm prefix = record { status = Done; text = text; found_so = (refl, writes); cases = inl (refl, wrote, calm); prefix = prefix }
+
+  -- or up to where the sink failed
+  pub done_until_fault : Failed sink → WrotePrefix text sink → IsGiven (AnswersDone command scene) sink WriteFault
+  done_until_fault failed prefix = record { status = Done; text = text; found_so = (refl, writes); cases = inr (inl (refl, failed)); prefix = prefix }
+
+  -- or up to where memory gave out
+  pub done_until_memory : DidNotFail sink → WrotePrefix text sink → IsGiven (AnswersDone command scene) sink NoMemory
+  done_until_memory calm prefix = record { status = Done; text = text; found_so = (refl, writes); cases = inr (inr (refl, calm)); prefix = prefix }
+
+-- ---- where memory gave out before anything was written
 
 -- a sink of which nothing was asked
-abbrev still : Option (List ℕ) → ℕ → Ends
+abbrev pub still : Option (List ℕ) → ℕ → Ends
 still told faults = record { before = told; after = told; faults_before = faults; faults_after = faults }
 
--- where memory gave out before anything was written
 given_none : (P : Status → List ℕ → Type 0) (told : Option (List ℕ)) (faults : ℕ) → ((status : Status) × (text : List ℕ) × P status text) → IsGiven P (still told faults) NoMemory
 given_none P told faults answer = record { status = answer.0; text = answer.1; found_so = answer.2; cases = inr (inr (refl, refl)); prefix = TookPrefix-nothing told answer.1 }
 
-pub form_no_memory : (found : Result FirstForm (ℕ × TextKind)) (told : Option (List ℕ)) (faults : ℕ) → IsGiven (AnswersForm found) (still told faults) NoMemory
-form_no_memory found told faults = given_none (AnswersForm found) told faults (form_answer found)
+pub done_no_memory : (command : Command) (scene : Scene) (text : List ℕ) (told : Option (List ℕ)) (faults : ℕ) → Writes command scene text → IsGiven (AnswersDone command scene) (still told faults) NoMemory
+done_no_memory command scene text told faults writes = given_none (AnswersDone command scene) told faults (Done, text, (refl, writes))
 
--- where memory gave out before the scene was read
-pub checked_no_memory : (config : Config) (told : Option (List ℕ)) (faults : ℕ) → is_lawful_config config ≡ true
-    → IsGiven (AnswersScene AnswersChecked config (scene_of config)) (still told faults) NoMemory
-checked_no_memory config told faults lawful =
-    given_none (AnswersScene AnswersChecked config (scene_of config)) told faults (scene_answer AnswersChecked config (scene_of config) checked_answer (lawful_is_faultless config lawful))
-
-pub planned_no_memory : (config : Config) (told : Option (List ℕ)) (faults : ℕ) → is_lawful_config config ≡ true
-    → IsGiven (AnswersScene AnswersPlanned config (scene_of config)) (still told faults) NoMemory
-planned_no_memory config told faults lawful =
-    given_none (AnswersScene AnswersPlanned config (scene_of config)) told faults (scene_answer AnswersPlanned config (scene_of config) planned_answer (lawful_is_faultless config lawful))
+pub config_no_memory : (command : Command) (config : Config) (told : Option (List ℕ)) (faults : ℕ) → is_lawful_config config ≡ true → IsGiven (AnswersConfig command config) (still told faults) NoMemory
+config_no_memory command config told faults lawful = given_none (AnswersConfig command config) told faults (config_answer command config lawful)
 
 pub text_no_memory : (command : Command) (bytes : List ℕ) (told : Option (List ℕ)) (faults : ℕ) → IsGiven (AnswersText command bytes) (still told faults) NoMemory
 text_no_memory command bytes told faults = given_none (AnswersText command bytes) told faults (text_answer command bytes)
 
 -- ---- what is said of a configuration
 
--- the scene that it describes is answered
-pub of_described : (of_scene : Scene → Status → List ℕ → Type 0) (config : Config) (scene : Scene) (status : Status) (text : List ℕ) → scene_of config ≡ Ok scene → of_scene scene status text
-    → AnswersScene of_scene config (scene_of config) status text
-of_described of_scene config scene status text describes is = rw describes is
-
--- its fault is answered; a cycle is one of its scene
-pub of_refused : (of_scene : Scene → Status → List ℕ → Type 0) (config : Config) (fault : SetupFault) (status : Status) (text : List ℕ)
-    → ((scene : Scene) → AnswersUncovered scene status text → of_scene scene status text) → IsConfigFault config fault → (fault ≡ setup.Memory → ⊥) → AnswersFault (Some config) fault status text
-    → AnswersScene of_scene config (scene_of config) status text
-unfolding text_of_fault
-of_refused of_scene config (setup.Text line kind) status text uncovered is some answers = absurd is
-of_refused of_scene config (setup.Scene fault) status text uncovered is some answers = rw is answers
-of_refused of_scene config (setup.Link place what) status text uncovered is some answers = rw is answers
-of_refused of_scene config (setup.Uncovered cycle) status text uncovered is some answers =
-    rw is.1 (uncovered is.0 (cycle.0.items, is.2, answers.0, answers.1 ∙ ap (λ names. cycle_text names cycle.0.items) (sym (names_of_scene config is.0 is.1))))
-of_refused of_scene config setup.Memory status text uncovered is some answers = absurd (some refl)
-
 -- an answer that was given is one of each kind that it belongs to
-pub given_as : (P Q : Status → List ℕ → Type 0) (sink : Ends) (result : Status) → ((status : Status) (text : List ℕ) → P status text → Q status text) → IsGiven P sink result → IsGiven Q sink result
+given_as : (P Q : Status → List ℕ → Type 0) (sink : Ends) (result : Status) → ((status : Status) (text : List ℕ) → P status text → Q status text) → IsGiven P sink result → IsGiven Q sink result
 given_as P Q sink result more given =
     record { status = given.status; text = given.text; found_so = more given.status given.text given.found_so; cases = given.cases; prefix = given.prefix }
+
+described : (command : Command) (config : Config) (scene : Scene) (status : Status) (text : List ℕ) → scene_of config ≡ Ok scene → IsAccepted scene → AnswersDone command scene status text
+    → AnswersConfig command config status text
+described command config scene status text describes accepted done = rw describes (inr (accepted, done))
+
+-- the accepted scene that it describes is answered
+pub given_described : (command : Command) (config : Config) (scene : Scene) (sink : Ends) (result : Status) → scene_of config ≡ Ok scene → IsAccepted scene
+    → IsGiven (AnswersDone command scene) sink result → IsGiven (AnswersConfig command config) sink result
+given_described command config scene sink result describes accepted given =
+    given_as (AnswersDone command scene) (AnswersConfig command config) sink result (λ status text done. described command config scene status text describes accepted done) given
+
+refused : (command : Command) (config : Config) (fault : SetupFault) (status : Status) (text : List ℕ) → IsConfigFault config fault → (fault ≡ setup.Memory → ⊥)
+    → AnswersFault (Some config) fault status text → AnswersConfig command config status text
+unfolding text_of_fault
+refused command config (setup.Text line kind) status text is some answers = absurd is
+refused command config (setup.Scene fault) status text is some answers = rw is answers
+refused command config (setup.Link place what) status text is some answers = rw is answers
+refused command config (setup.Uncovered cycle) status text is some answers =
+    rw is.1 (inl (cycle.0.items, is.2, answers.0, answers.1 ∙ ap (λ names. cycle_text names cycle.0.items) (sym (names_of_scene config is.0 is.1))))
+refused command config setup.Memory status text is some answers = absurd (some refl)
+
+-- its fault is answered; a cycle is one of its scene
+pub given_refused : (command : Command) (config : Config) (fault : SetupFault) (sink : Ends) (result : Status) → IsConfigFault config fault → (fault ≡ setup.Memory → ⊥)
+    → IsGiven (AnswersFault (Some config) fault) sink result → IsGiven (AnswersConfig command config) sink result
+given_refused command config fault sink result is some given =
+    given_as (AnswersFault (Some config) fault) (AnswersConfig command config) sink result (λ status text answers. refused command config fault status text is some answers) given
 
 -- what a command gave to what was read, it gave to the words
 pub given_to_words : (command : Command) (words : List (List ℕ)) (bytes read : List ℕ) (sink : Ends) (result : Status) → read ≡ bytes → command_of words ≡ Some command

@@ -1,16 +1,12 @@
 -- What holds of each call of the program, over any source and any sink.
-use Rattle.std.specs.Prelude.{⊤, ◌≡◌, ◌≢◌, ◌⊎◌, ℕ, ◌<◌, ◌≤◌, ◌+◌, true, false, List, [], length, take, Option, Some, Ok, IsTrue}
+use Rattle.std.specs.Prelude.{◌≡◌, ◌≢◌, ◌⊎◌, ℕ, ◌<◌, ◌≤◌, ◌+◌, true, false, List, [], length, take, Option, Some, IsTrue}
 use Rattle.music_base.specs.Causes.{Rose}
 use Rattle.music_base.specs.Outside.{Gave, GaveAtMost, IsAtEnd, Took, TookPrefix}
 use Rattle.config_text.specs.Lines.{longest_text}
-use Rattle.config_text.specs.Text.{Spells}
-use Rattle.config_text.specs.declared.config.Config.{Config}
 use Rattle.scene_model.specs.declared.scene.Scene.{Scene}
-use Rattle.music_setup.specs.Scenes.{scene_of}
+use Rattle.music_setup.specs.Setups.{SpellsScene}
 use Rattle.music_cli.specs.Words.{command_of, are_accepted}
 use Rattle.music_cli.specs.Answers.{Answers, CanDo, HasLiveLimits, can_end, number_of, usage_text, read_fault_text}
-use Rattle.music_cli.specs.declared.command_line.Command.{Command}
-use Rattle.music_cli.specs.declared.command_line.Command.TheVariants.{Check, Plan, Run}
 use Rattle.music_cli.specs.declared.status.Status.{Status}
 use Rattle.music_cli.specs.declared.status.Status.TheVariants.{Done, Usage, ReadFault, WriteFault, NoMemory}
 
@@ -145,22 +141,16 @@ abbrev pub HasPrefix : List (List ℕ) → Ends → Ends → ℕ → Type 0
 HasPrefix words source sink result = (bytes : List ℕ) → source.before ≡ Some bytes →
     ((result ≡ number_of WriteFault) ⊎ (result ≡ number_of NoMemory)) → (text : List ℕ) × IsText words bytes source text × WrotePrefix text sink
 
--- Completeness: where the words give a command, and the bytes spell a configuration with which it can be done, it is done,
--- or memory gave out, where neither the source nor the sink failed.
+-- Completeness: where the words are accepted, and the bytes spell a configuration that describes an accepted scene, the
+-- command is done, or memory gave out, where neither the source nor the sink failed.
 abbrev pub IsComplete : List (List ℕ) → Ends → Ends → ℕ → Type 0
-IsComplete words source sink result = (command : Command) (bytes : List ℕ) → command_of words ≡ Some command → source.before ≡ Some bytes → CanDo command (read_part bytes) →
+IsComplete words source sink result = (bytes : List ℕ) → IsTrue (are_accepted words) → source.before ≡ Some bytes → CanDo (read_part bytes) →
     (Failed source → ⊥) → (Failed sink → ⊥) → (result ≡ number_of Done) ⊎ (result ≡ number_of NoMemory)
 
--- the command asks for the scene that the configuration describes
-abbrev pub AsksForScene : Command → Type 0
-AsksForScene Check = ⊤
-AsksForScene Plan = ⊤
-AsksForScene Run = ⊥
-
--- where such a command is done, the bytes spell a configuration whose scene has limits under which it is live
+-- where a command is done, the bytes spell a configuration whose scene has limits under which it is live
 abbrev pub IsLiveWhenDone : List (List ℕ) → Ends → ℕ → Type 0
-IsLiveWhenDone words source result = (command : Command) (bytes : List ℕ) → source.before ≡ Some bytes → command_of words ≡ Some command → AsksForScene command → result ≡ number_of Done →
-    (config : Config) × Spells config (read_part bytes) × (scene : Scene) × (scene_of config ≡ Ok scene) × HasLiveLimits scene
+IsLiveWhenDone words source result = (bytes : List ℕ) → IsTrue (are_accepted words) → source.before ≡ Some bytes → result ≡ number_of Done →
+    (scene : Scene) × SpellsScene (read_part bytes) scene × HasLiveLimits scene
 
 -- ---- all of them
 

@@ -6,10 +6,11 @@ ghost use Rattle.music_cli.specs.Words.{command_named, command_of, texts};
 pub enum Command {
     /// Say how large the scene is that the text describes, or its first fault, or a cycle of its waits that is not covered.
     Check,
-    /// Write how many blocks each connection of the scene keeps at most, or its first fault, or a cycle of its waits that is
-    /// not covered.
+    /// Write how many blocks each connection of the scene keeps at most, or what `check` refuses.
     Plan,
-    /// Run the scene and write its log.
+    /// Write an order in which the applications of the scene can act, each of them to its end, or what `check` refuses.
+    Order,
+    /// Run the scene and write its log, or what `check` refuses.
     Run,
 }
 
@@ -20,6 +21,7 @@ fn command_named(word: &[u8]) -> Option<Command>
     match word {
         b"check" => Some(Command::Check),
         b"plan" => Some(Command::Plan),
+        b"order" => Some(Command::Order),
         b"run" => Some(Command::Run),
         _ => None,
     }

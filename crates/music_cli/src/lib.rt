@@ -4,6 +4,7 @@
 mod answering;
 mod checking;
 mod command_line;
+mod ordering;
 mod plan_text;
 mod planning;
 mod running;

@@ -1,13 +1,14 @@
 //! The text of a plan.
 ghost use Rattle.std.specs.Prelude.{◌≡◌, ◌<◌, ◌++◌, length, OnOk, IfOk};
 ghost use Rattle.scene_model.specs.Faults.{IsFaultless};
+ghost use Rattle.music_setup.specs.Setups.{IsSound};
 ghost use Rattle.music_cli.specs.PlanTexts.{columns_line, ends_text, how_text, plan_line, plan_text, port_text};
 
 use itoa::Buffer;
 use music_base::{LinkId, NoMemory};
-use music_setup::Ready;
 use scene_model::{AppDecl, PortDecl, Scene};
 use std::alloc::Global;
+use tick_plan::Plan;
 
 /// Appends the names of an application and of one of its ports.
 fn push_port(text: &mut Vec<u8>, app: &AppDecl, port: &PortDecl) -> Result<(), NoMemory>
@@ -72,12 +73,11 @@ fn columns_line() -> &'static [u8]
 }
 
 /// The text of a plan: the names of the columns, and a line for each connection, with its number from 1, its two ends, its
-/// limit, and whether that is stated or chosen.
-pub fn plan_text(alloc: Global, ready: &Ready) -> Result<Vec<u8>, NoMemory>
-    ensures { IfOk result (λ text. text.items ≡ plan_text ready.now.scene ready.now.plan.limits.items) }
+/// limit, and whether that is stated or chosen. The plan is the scene's own.
+pub fn plan_text(alloc: Global, scene: &Scene, plan: &Plan) -> Result<Vec<u8>, NoMemory>
+    requires { IsSound (record { scene = scene.now; plan = plan.now }) }
+    ensures { IfOk result (λ text. text.items ≡ plan_text scene.now plan.now.limits.items) }
 {
-    let scene = ready.scene();
-    let plan = ready.plan();
     let mut text = Vec::from_slice(alloc, columns_line())?;
     for c in 0..scene.links.len() {
         push_line(

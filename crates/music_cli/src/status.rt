@@ -5,11 +5,12 @@ use music_setup::SetupFault;
 /// How a call ended. The program exits with its number.
 #[derive(Clone, Copy, Debug, PartialEq, Eq)]
 pub enum Status {
-    /// The log was written, or the plan, or the line `ok: A applications, L connections`.
+    /// What the command writes of the scene was written: the line `ok: A applications, L connections`, the plan, an order of
+    /// acts or the log.
     Done,
     /// The words were refused, and the usage line was written.
     Usage,
-    /// The text spells no configuration, or none that can be run yet, and the line of its fault was written.
+    /// The text spells no configuration, and the line of its first fault was written.
     TextFault,
     /// The configuration describes no scene, and the line of its first fault was written.
     SceneFault,

@@ -47,15 +47,16 @@ fn answer<S: Source, K: Sink>(
 
 /// Does all that the program does for one worker, and starts no thread.
 ///
-/// The words are those behind the program's name, and exactly the one word `check`, `plan` or `run` is accepted. The source
-/// is then read to its end, or one byte further than a text may be long. Written to the sink is what the command asks of
-/// the configuration that the text spells, or the line that says why there is none: by `check` how many applications and
-/// connections its scene has, by `plan` how many blocks each connection keeps at most, and by both, where some cycle of
-/// the scene's waits is not covered, such a cycle; by `run` the log of the scene.
+/// The words are those behind the program's name, and exactly the one word `check`, `plan`, `order` or `run` is accepted. The
+/// source is then read to its end, or one byte further than a text may be long. Written to the sink is what the command
+/// asks of the scene that the text describes: by `check` how many applications and connections it has, by `plan` how many
+/// blocks each connection keeps at most, by `order` a lawful order of acts after which every application is finished, by
+/// `run` its log. In its place each command writes the line of the first fault of the text, of the scene or of a
+/// connection, or where some cycle of the scene's waits is not covered, such a cycle.
 ///
 /// The answer is the program's exit status: 0 done, 2 wrong words, 3 a fault of the text, 4 a fault of the scene or of a
-/// connection, 5 a cycle of waits that is not covered, 6 the source failed, 7 the sink failed, 8 memory was not found.
-/// Today `run` serves texts of the first form alone and refuses any other one with status 3, so it never ends with 4 or 5.
+/// connection, 5 a cycle of waits that is not covered, 6 the source failed, 7 the sink failed, 8 memory was not found. An
+/// order and a log are written as they are found, so that with status 7 or 8 a part of them may have been written.
 pub fn music_alone<S: Source, K: Sink>(
     alloc: Global,
     words: &Vec<String>,

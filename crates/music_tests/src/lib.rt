@@ -1,4 +1,4 @@
-//! Tests of the two top calls, and of the calls below them that the command `run` makes.
+//! Tests of the two top calls, and of reading a source whole.
 //!
 //! A helper answers a plain value from one call, so that each function has few values to drop.
 #![tactic(auto)]

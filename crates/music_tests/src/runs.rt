@@ -50,8 +50,9 @@ const CASES: &[Case<'static>] = &[
     },
     Case {
         text: "",
-        taken: "text fault: line 1: Unbuilt\n",
-        ..FAULTY
+        status: 4,
+        taken: "scene fault: StopMissing\n",
+        ..RUN
     },
     Case {
         text: "stoptime=1\n[gen",
