@@ -10,6 +10,10 @@ mod checks;
 #[cfg(test)]
 mod cycle_tables;
 #[cfg(test)]
+mod log_tables;
+#[cfg(test)]
+mod logs;
+#[cfg(test)]
 mod made_texts;
 #[cfg(test)]
 mod port_tables;
