@@ -22,4 +22,4 @@ pub use page::Page;
 pub use quick_lines::{push_event, push_ready, push_value};
 pub use ranks::RankFields;
 pub use scene_model::{Row, RowItem};
-pub use writing::{WriteFault, write_rows};
+pub use writing::{LogWriter, WriteFault, write_rows};

@@ -19,6 +19,7 @@ const LISTS: usize = 16;
 pub struct RowMerger {
     queues: Vec<Queue>,
     spare: usize,
+    count: usize,
 }
 
 impl Model for RowMerger {
@@ -105,7 +106,17 @@ impl RowMerger {
         for _ in 0..apps {
             queues.push(Queue::new(alloc))?;
         }
-        Ok(RowMerger { queues, spare: 0 })
+        Ok(RowMerger {
+            queues,
+            spare: 0,
+            count: 0,
+        })
+    }
+
+    /// How many rows are held, by a count that stops at 2^64 - 1. It tells when a release is worth its while, and nothing
+    /// rests on it.
+    pub fn row_count(&self) -> usize {
+        self.count
     }
 
     /// Makes room for one more list of rows at least, of whatever application. Where memory is wanting nothing changes.
@@ -131,6 +142,7 @@ impl RowMerger {
         ensures spare { self.new.spare + 1 ≡ self.old.spare }
     {
         self.spare -= 1;
+        self.count = self.count.saturating_add(rows.len());
         self.queues[app.0 as usize].admit(rows);
     }
 
@@ -149,6 +161,7 @@ impl RowMerger {
         let count = count_rows(&self.queues).ok_or(NoMemory)?;
         let mut released = Vec::with_capacity(alloc, count)?;
         merge(&mut self.queues, least.0, &mut released);
+        self.count = self.count.saturating_sub(released.len());
         Ok(Items::from_vec(released))
     }
 }

@@ -7,19 +7,19 @@ use Rattle.run_logs.proofs.writing.write_lines.Goals as goal
 pub loop-rest-init : goal.loop-rest-init
 loop-rest-init g c = record { written = none_written _ _ _ c.requires.writable; stays = refl }
 
-pub returns-in_default-fill-clause-prefix : goal.returns-in_default-fill-clause-prefix
-returns-in_default-fill-clause-prefix g c = written_prefix _ _ _ _ _ c.loop-rest.invariant.written
+pub returns-in_default-clause-prefix : goal.returns-in_default-clause-prefix
+returns-in_default-clause-prefix g c = written_prefix _ _ _ _ _ c.loop-rest.invariant.written
 
 pub returns-in_err-write_text-clause-prefix : goal.returns-in_err-write_text-clause-prefix
 returns-in_err-write_text-clause-prefix g c =
     let text : c.text.result.now ≡ lines c.args.scene.now (take c.min.result c.loop-rest.rest.now) =
-    c.text.ensures ∙ c.in-Ok-fill.ensures ∙ ap (lines c.args.scene.now) c.split_at.ensures.front in
+    c.text.ensures ∙ c.in-Ok.ensures ∙ ap (lines c.args.scene.now) c.split_at.ensures.front in
     batch_prefix _ _ _ _ _ _ _ c.loop-rest.invariant.written (rw text at c.in_err-write_text.ensures.prefix)
 
 pub loop-rest-preserved : goal.loop-rest-preserved
 loop-rest-preserved g c =
     let text : c.text.result.now ≡ lines c.args.scene.now (take c.min.result c.loop-rest.rest.now) =
-    c.text.ensures ∙ c.in-Ok-fill.ensures ∙ ap (lines c.args.scene.now) c.split_at.ensures.front in
+    c.text.ensures ∙ c.in-Ok.ensures ∙ ap (lines c.args.scene.now) c.split_at.ensures.front in
     record {
       written = rw c.split_at.ensures.back (batch_written _ _ _ _ _ _ _ c.loop-rest.invariant.written (rw text at c.in_ok-write_text.ensures.all));
       stays = c.in_ok-write_text.ensures.stays ∙ c.loop-rest.invariant.stays;
