@@ -1,5 +1,5 @@
 -- Where an end cannot refuse, the machine acted.
-use Rattle.std.specs.Prelude.{ℕ, ◌≡◌}
+use Rattle.std.specs.Prelude.{ℕ}
 use Rattle.music_base.specs.declared.item.Block.{Block}
 use Rattle.port_buffers.specs.declared.ends.PutEnd as PutEnd
 use Rattle.port_buffers.specs.declared.ends.TakeEnd as TakeEnd

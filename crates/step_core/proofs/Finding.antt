@@ -1,5 +1,6 @@
 -- Where no act is allowed, all applications are finished; lawful orders, one act longer.
-use Rattle.std.proofs.Common.{ℕ, ℤ, ◌+◌, ◌<◌, ◌≡◌, ◌⊎◌, inl, inr, refl, sym, ◌∙◌, ap, subst, List, [], ◌∷◌, ◌++◌, length}
+use Rattle.std.proofs.Common.{ℕ, ◌+◌, ◌<◌, ◌≡◌, ◌⊎◌, inl, inr, refl, sym, ◌∙◌, ap, subst, List, [], ◌∷◌, ◌++◌, length, Option, None, Some}
+use Rattle.std.specs.Prelude.{IfSome, MatchOption}
 use Rattle.scene_model.specs.declared.scene.Scene.{Scene}
 use Rattle.scene_model.specs.declared.act.Act.{Act}
 use Rattle.scene_model.specs.declared.act.Act.TheVariants.{Take, Run, Put}
@@ -12,7 +13,6 @@ use Rattle.scene_model.proofs.SceneWaits.{fits_each_passes}
 use Rattle.scene_model.proofs.WellFormedScenes.{well_formed}
 use Rattle.scene_model.proofs.Faultless.{connection_is}
 use Rattle.scene_model.specs.declared.row.Row.{Row}
-use Rattle.scene_model.specs.Scenes.{receiver, sender}
 use Rattle.scene_model.specs.Orders.{actor}
 use Rattle.music_base.specs.declared.item.Block.{Block}
 use Rattle.circular_buffer.specs.Buffer.{Buffer}
@@ -40,6 +40,17 @@ module _ (scene : Scene) (limits : List ℕ) (s : Counts) (released : List ℕ) 
       small (Take c) can = (connection_is scene core.faultless c can.link).to_app
       small (Run a) can = can.app
       small (Put c) can = (connection_is scene core.faultless c can.link).from_app
+
+  -- where all are finished, no allowed act was found
+  pub none_found : (act : Option Act) → IfSome act (IsAllowed scene limits s) → AllFinished scene s → act ≡ None
+  none_found None can all = refl
+  none_found (Some act) can all = absurd (not_finished act can all)
+
+  -- and where none was found, all are finished
+  pub found : (act : Option Act) → IfSome act (IsAllowed scene limits s) → ((c : ℕ) → c < length scene.links → (CanTake scene s c → ⊥) × (CanPut scene limits s c → ⊥))
+      → (act ≡ None → (a : ℕ) → a < length scene.apps → CanRun scene s a → ⊥) → MatchOption act (AllFinished scene s) (IsAllowed scene limits s)
+  found None can no_link no_app = all_done no_link (no_app refl)
+  found (Some act) can no_link no_app = can
 
 pub lawful-more : (scene : Scene) (limits : List ℕ) (acts : List Act) (act : Act) (s : Counts) → IsLawfulFrom scene limits s acts → IsAllowed scene limits (after_all s acts) act → IsLawfulFrom scene limits s (acts ++ act ∷ [])
 lawful-more scene limits [] act s lawful can = (can, tt)

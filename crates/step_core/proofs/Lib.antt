@@ -4,6 +4,7 @@ pub mod Histories
 pub mod Opening
 pub mod Owning
 pub mod Puts
+mod Results
 pub mod Rooms
 pub mod Rows
 pub mod Runs

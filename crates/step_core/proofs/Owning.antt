@@ -84,10 +84,10 @@ module _ (scene : Scene) (ms : List Machine) (s : Counts) (own : AreOwn scene ms
         takes c link (inr ne) = ap (λ (x : Machine). taken_by x c) (get_or-set_other ms r (receiver scene c) m no_machine ne) ∙ own.takes c link ∙ sym (taken-else c ne)
 
   -- what machine r counted
-  put-here : (r c : ℕ) → c < length scene.links → sender scene c ≡ r → put_by (machine_at ms r) c ≡ put_on s c
+  pub put-here : (r c : ℕ) → c < length scene.links → sender scene c ≡ r → put_by (machine_at ms r) c ≡ put_on s c
   put-here r c link e = ap (λ x. put_by (machine_at ms x) c) (sym e) ∙ own.puts c link
 
-  taken-here : (r c : ℕ) → c < length scene.links → receiver scene c ≡ r → taken_by (machine_at ms r) c ≡ taken_from s c
+  pub taken-here : (r c : ℕ) → c < length scene.links → receiver scene c ≡ r → taken_by (machine_at ms r) c ≡ taken_from s c
   taken-here r c link e = ap (λ x. taken_by (machine_at ms x) c) (sym e) ∙ own.takes c link
 
   pub took_own : (c r : ℕ) (b : Block) (m : Machine) → c < length scene.links → c < length s.taken → receiver scene c ≡ r → r < length scene.apps → Took (machine_at ms r) c b m → AreOwn scene (slice_set ms r m) (after s (Take c))

@@ -1,21 +1,20 @@
 -- A put keeps a core.
-use Rattle.std.proofs.Common.{ℕ, suc, ℤ, ◌+◌, ◌-◌, ◌<◌, ◌≤◌, ◌≡◌, refl, sym, ◌∙◌, ap, subst, arith, min, List, [], ◌∷◌, ◌++◌, length, slice_set, Some, Option}
+use Rattle.std.proofs.Common.{ℕ, ◌+◌, ◌-◌, ◌<◌, ◌≡◌, refl, sym, ◌∙◌, ap, subst, arith, List, [], ◌∷◌, ◌++◌, length, slice_set, Some, Option}
 use Rattle.std.specs.Prelude.{slice_index, slice_index_or, IfSome}
 use Rattle.std.proofs.Math.ListN.{length-set}
 use Rattle.scene_model.specs.declared.scene.Scene.{Scene}
 use Rattle.music_base.specs.declared.item.Item.{Item}
 use Rattle.scene_model.specs.declared.act.Act.TheVariants.{Put}
-use Rattle.scene_model.specs.Scenes.{sender, receiver}
-use Rattle.scene_model.specs.Clocks.{steps, wanted_blocks}
+use Rattle.scene_model.specs.Scenes.{sender}
+use Rattle.scene_model.specs.Clocks.{steps}
 use Rattle.scene_model.specs.Tables.{block_on}
 use Rattle.scene_model.specs.Lives.{history}
-use Rattle.scene_model.specs.Orders.{Counts, run_by, put_on, taken_from, one_more, after, CanPut}
+use Rattle.scene_model.specs.Orders.{Counts, put_on, taken_from, one_more, after, CanPut}
 use Rattle.scene_model.proofs.Sound.{after_act, one_more-same, one_more-other}
-use Rattle.scene_model.proofs.Wanted.{wanted_before-at_most}
 use Rattle.music_base.specs.declared.item.Block.{Block}
 use Rattle.port_buffers.specs.contracts.ring.RingPutEnd.TheImpl.{ghosts}
 use Rattle.circular_buffer.specs.Buffer.{Buffer, buffer}
-use Rattle.app_turn.specs.Machines.{Machine, put_by, pending_on, life_block, Follows, IsPending}
+use Rattle.app_turn.specs.Machines.{Machine, pending_on, life_block, IsPending}
 use Rattle.app_turn.specs.Moves.{DidPut, Gave}
 use Rattle.app_turn.specs.declared.turned.Turned.{Turned}
 use Rattle.step_core.proofs.Ends.{gave_if}

@@ -1,5 +1,5 @@
 -- The rows of an application's steps stand in row order.
-use Rattle.std.proofs.Common.{ℕ, zero, suc, ◌+◌, ◌-◌, ◌*◌, ◌<◌, ◌≤◌, ◌≡◌, refl, sym, ◌∙◌, ap, arith, Bool, true, false, inl, inr, nat_lt, nat_eq, List, [], ◌∷◌, ◌++◌, length, map}
+use Rattle.std.proofs.Common.{ℕ, zero, suc, ◌+◌, ◌-◌, ◌*◌, ◌<◌, ◌≤◌, ◌≡◌, refl, ◌∙◌, ap, arith, true, false, inl, inr, nat_lt, nat_eq, List, [], ◌∷◌, ◌++◌, length}
 use Rattle.std.specs.List.{AllByRecursion, flat_map, range_with_len}
 use Rattle.std.specs.Ordering.{is_gt, nat_cmp, ordering_then}
 use Rattle.std.specs.declared.cmp.Ordering.{Ordering}
@@ -49,7 +49,7 @@ module _ {X : Type 0} (cmp : X → X → Ordering) where
         Later y = (k : ℕ) × (from < k) × P k y
 
         all_later : AllByRecursion Later (flat_map f (range_with_len (from + 1) n))
-        all_later = All-flat_map Later f (range_with_len (from + 1) n) (All-range_with_len (λ k. AllByRecursion Later (f k)) (from + 1) n (λ k low. All-weaker (P k) Later (λ y p. (k, (omega (arith, low), p))) (f k) (has k)))
+        all_later = All-flat_map Later f (range_with_len (from + 1) n) (All-range_with_len (λ k. AllByRecursion Later (f k)) (from + 1) n (λ k low. All-weaker (P k) Later (λ y p. (k, omega (arith, low), p)) (f k) (has k)))
 
 -- ---- rows
 
@@ -66,13 +66,13 @@ not_later a b le = elim (cases_lt a b) [
 ]
 
 -- a row of an application, with the clock of a step, of a port, and of a rank
-IsOfStep : ℕ → ℕ → Row → Type 0
+abbrev pub IsOfStep : ℕ → ℕ → Row → Type 0
 IsOfStep now app row = (row.clock ≡ now) × (row.app ≡ app)
 
-IsOfPort : ℕ → ℕ → ℕ → Row → Type 0
+abbrev pub IsOfPort : ℕ → ℕ → ℕ → Row → Type 0
 IsOfPort now app port row = (row.clock ≡ now) × (row.app ≡ app) × (row.port ≡ port)
 
-IsOfRank : ℕ → ℕ → ℕ → ℕ → Row → Type 0
+abbrev pub IsOfRank : ℕ → ℕ → ℕ → ℕ → Row → Type 0
 IsOfRank now app port rank row = (row.clock ≡ now) × (row.app ≡ app) × (row.port ≡ port) × (row.rank ≡ rank)
 
 ranks_ascend : (now app port r q : ℕ) (x y : Row) → r ≤ q → IsOfRank now app port r x → IsOfRank now app port q y → is_gt (row_cmp x y) ≡ false
@@ -90,9 +90,9 @@ ports_ascend now app p q x y lt is other =
 module _ (scene : Scene) (table : Table) (a : ℕ) where
   module _ (j p : ℕ) where
     of_rank : (r : ℕ) → AllByRecursion (IsOfRank (clock scene a j) a p r) (rank_rows scene table a j p r)
-    of_rank r = All-map_of (IsOfRank (clock scene a j) a p r) (λ item. record { clock = clock scene a j; app = a; port = p; rank = r; item = item }) (λ item. (refl, (refl, (refl, refl)))) _
+    of_rank r = All-map_of (IsOfRank (clock scene a j) a p r) (λ item. record { clock = clock scene a j; app = a; port = p; rank = r; item = item }) (λ item. (refl, refl, refl, refl)) _
 
-    port_rows : List Row
+    abbrev port_rows : List Row
     port_rows = flat_map (rank_rows scene table a j p) (below (rank_count (port_at scene a p).map))
 
     port_stands : StandInOrder row_cmp port_rows
@@ -103,7 +103,7 @@ module _ (scene : Scene) (table : Table) (a : ℕ) where
     of_port : AllByRecursion (IsOfPort (clock scene a j) a p) port_rows
     of_port = All-flat_map (IsOfPort (clock scene a j) a p) (rank_rows scene table a j p) (below (rank_count (port_at scene a p).map))
         (All-of (λ r. AllByRecursion (IsOfPort (clock scene a j) a p) (rank_rows scene table a j p r))
-        (λ r. All-weaker (IsOfRank (clock scene a j) a p r) (IsOfPort (clock scene a j) a p) (λ x is. (is.0, (is.1, is.2))) (rank_rows scene table a j p r) (of_rank r)) (below (rank_count (port_at scene a p).map)))
+        (λ r. All-weaker (IsOfRank (clock scene a j) a p r) (IsOfPort (clock scene a j) a p) (λ x is. (is.0, is.1, is.2)) (rank_rows scene table a j p r) (of_rank r)) (below (rank_count (port_at scene a p).map)))
 
   pub step_stands : (j : ℕ) → StandInOrder row_cmp (step_rows scene table a j)
   unfolding step_rows

@@ -1,34 +1,31 @@
 -- Taking a block keeps a core.
-use Rattle.std.proofs.Common.{ℕ, suc, ℤ, ◌+◌, ◌-◌, ◌<◌, ◌≤◌, ◌≡◌, ◌⊎◌, inl, inr, refl, sym, ◌∙◌, ap, subst, arith, min, List, [], ◌∷◌, ◌++◌, length, map, get_or-set_same, get_or-set_other, slice_set, Some, Option}
-use Rattle.std.specs.Prelude.{slice_index, slice_index_or, IfSome}
+use Rattle.std.proofs.Common.{ℕ, suc, ◌+◌, ◌-◌, ◌<◌, ◌≤◌, ◌≡◌, ◌⊎◌, inl, inr, refl, sym, ◌∙◌, ap, subst, arith, List, [], ◌∷◌, ◌++◌, length, map, get_or-set_same, get_or-set_other, slice_set}
+use Rattle.std.specs.Prelude.{slice_index, slice_index_or}
 use Rattle.std.specs.List.{range_with_len}
 use Rattle.std.proofs.lemmas.Bool.{cases_eq}
 use Rattle.std.proofs.lemmas.List.{get_or_read, set-get_or}
 use Rattle.std.proofs.lemmas.List.FromFn.{map-range_with_len_more, length-map-range_with_len}
 use Rattle.std.proofs.Math.ListN.{length-set}
-use Rattle.music_base.specs.Numbers.{below}
 use Rattle.scene_model.specs.declared.scene.Scene.{Scene}
 use Rattle.scene_model.specs.declared.row.Row.{Row}
-use Rattle.scene_model.specs.declared.act.Act.TheVariants.{Take, Run, Put}
+use Rattle.scene_model.specs.declared.act.Act.TheVariants.{Take}
 use Rattle.scene_model.specs.Scenes.{sender, receiver}
-use Rattle.scene_model.specs.Clocks.{steps, wanted, wanted_blocks}
+use Rattle.scene_model.specs.Clocks.{steps}
 use Rattle.scene_model.specs.Tables.{block_on}
 use Rattle.scene_model.specs.Lives.{history}
-use Rattle.scene_model.specs.Orders.{Counts, run_by, put_on, taken_from, one_more, after, CanTake, CanRun, CanPut, IsSound}
+use Rattle.scene_model.specs.Orders.{Counts, put_on, taken_from, one_more, after, CanTake}
 use Rattle.scene_model.proofs.Sound.{after_act, one_more-same, one_more-other}
-use Rattle.scene_model.proofs.Wanted.{wanted_before-at_most}
 use Rattle.music_base.specs.declared.item.Block.{Block}
 use Rattle.circular_buffer.specs.Buffer.{Buffer, buffer}
-use Rattle.app_turn.specs.Machines.{Machine, put_by, taken_by, pending_on, Follows, HasBlock, WantsTake, WantsRun, WantsPut, IsPending, IsNext}
+use Rattle.app_turn.specs.Machines.{Machine, taken_by, Follows, HasBlock, IsNext}
 use Rattle.app_turn.specs.Moves.{Took, DidTake}
 use Rattle.app_turn.specs.declared.turned.Turned.{Turned}
 use Rattle.step_core.proofs.Ends.{took_if}
 use Rattle.port_buffers.specs.contracts.ring.RingTakeEnd.TheImpl.{ghosts}
-use Rattle.scene_model.specs.Logs.{step_rows}
 use Rattle.port_buffers.specs.Shapes.{FitsShape}
 use Rattle.app_turn.specs.Shapes.{shape}
 use Rattle.scene_model.proofs.Faultless.{connection_is}
-use Rattle.step_core.specs.Cores.{machine_at, no_machine, ring_at, counts_of, IsMachineOf, AreOwn, past_block, past_blocks, IsRing, IsCore, room_for}
+use Rattle.step_core.specs.Cores.{machine_at, no_machine, ring_at, counts_of, past_block, past_blocks, IsRing, IsCore, room_for}
 use Rattle.step_core.proofs.Histories.{has_block, past_fits}
 use Rattle.step_core.proofs.Owning.{own-counts, took_own}
 

@@ -1,5 +1,5 @@
 //! The core.
-ghost use Rattle.std.specs.Prelude.{◌≡◌, ◌↔◌, ◌<◌, ◌≤◌, ◌-◌, ⊥, ℕ, IsTrue, OnOk, OnErr, IfOk, IfSome, MatchOption, None, length, slice_index};
+ghost use Rattle.std.specs.Prelude.{◌≡◌, ◌↔◌, ◌<◌, ◌≤◌, ◌-◌, ℕ, IsTrue, OnOk, OnErr, IfOk, IfSome, MatchOption, None, length, slice_index};
 ghost use Rattle.scene_model.specs.Faults.{IsFaultless};
 ghost use Rattle.scene_model.specs.Orders.{AllFinished, CanPut, CanRun, CanTake, put_on, taken_from};
 ghost use Rattle.scene_model.specs.Scenes.{receiver, sender};
@@ -7,7 +7,7 @@ ghost use Rattle.scene_model.specs.declared.act.Act.TheVariants.{Put, Run, Take}
 ghost use Rattle.tick_plan.specs.Plans.{PlanFits};
 ghost use Rattle.step_core.specs.Cores.{Can, IsStill, did, opened};
 
-use crate::starts::{make_rings, start_machines};
+use crate::starts::{limits_copy, make_rings, none_released, start_machines};
 use app_turn::AppMachine;
 use music_base::{AppId, LinkId, NoMemory, TryCopy};
 use port_buffers::Ring;
@@ -75,9 +75,8 @@ impl Core {
         let rings = make_rings(alloc, &scene, &plan.limits)?;
         let apps = scene.apps.len();
         let rows = RowMerger::make(alloc, apps as u32)?;
-        let mut released = Vec::new(alloc);
-        released.resize(apps, 0)?;
-        let limits = plan.limits.clone()?;
+        let released = none_released(alloc, apps)?;
+        let limits = limits_copy(alloc, &plan.limits)?;
         Ok(Core {
             scene,
             limits,
@@ -185,11 +184,11 @@ impl Core {
         ensures found { MatchOption result (AllFinished self.now.scene self.now.counts) (λ act. Can self.now act) }
         ensures none { AllFinished self.now.scene self.now.counts → result ≡ None }
     {
-        let act = self.link_act();
-        if act.is_some() {
-            return act;
+        let _ = &self.scene;
+        match self.link_act() {
+            Some(act) => Some(act),
+            None => self.app_act(),
         }
-        self.app_act()
     }
 
     /// Takes a block from a connection.

@@ -1,5 +1,5 @@
 //! The parts of a core before any act.
-ghost use Rattle.std.specs.Prelude.{◌≡◌, ◌≤◌, ◌<◌, ℕ, List, IfOk, length, slice_index};
+ghost use Rattle.std.specs.Prelude.{◌≡◌, ◌≤◌, ◌<◌, ℕ, List, IfOk, length, replicate, slice_index};
 ghost use Rattle.std.specs.Arc.{arc_value};
 ghost use Rattle.scene_model.specs.Faults.{IsFaultless};
 ghost use Rattle.step_core.specs.Cores.{AreStarted, empty_rings, room_for};
@@ -47,4 +47,20 @@ pub fn make_rings(alloc: Global, scene: &Scene, limits: &[u64]) -> Result<Vec<Ri
         rings.push(Ring::make(alloc, room)?)?;
     }
     Ok(rings)
+}
+
+/// Of so many applications no step has handed out its rows.
+pub fn none_released(alloc: Global, apps: usize) -> Result<Vec<u64>, NoMemory>
+    ensures { IfOk result (λ released. released.items ≡ replicate apps 0) }
+{
+    let mut released = Vec::new(alloc);
+    released.resize(apps, 0)?;
+    Ok(released)
+}
+
+/// The same limits.
+pub fn limits_copy(alloc: Global, limits: &[u64]) -> Result<Vec<u64>, NoMemory>
+    ensures { IfOk result (λ copy. copy.items ≡ limits.now) }
+{
+    Ok(limits.iter().copied().collect(alloc)?)
 }
