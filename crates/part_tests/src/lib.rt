@@ -20,6 +20,8 @@ mod plans;
 #[cfg(test)]
 mod rows;
 #[cfg(test)]
+mod scene_runs;
+#[cfg(test)]
 mod setups;
 #[cfg(test)]
 mod standard_ends;

@@ -11,7 +11,7 @@ use scene_model::Scene;
 use std::alloc::Global;
 
 /// Spikes and notes go from a clock to two sides that pass spikes on to each other, and a ramp is watched.
-const SCENE: &[u8] = b"stoptime=0.004
+pub const SCENE: &[u8] = b"stoptime=0.004
 binary=script
 [clk]
 np=1
@@ -46,7 +46,7 @@ clk.note -> wave.cmd
 wave.level -> watch.level [2]
 ";
 
-const LOG: &[u8] = b"clock,app,port,kind,rank,local,global,time,value
+pub const LOG: &[u8] = b"clock,app,port,kind,rank,local,global,time,value
 0,wave,cmd,message,0,0,0,500000,go
 0,watch,level,cont,0,0,0,,0
 0,watch,level,cont,0,1,1,,0

@@ -14,3 +14,4 @@ pub mod PastRows
 pub mod Growing
 pub mod Releases
 pub mod NextClocks
+pub mod Running
