@@ -13,10 +13,11 @@ use Rattle.command_words.specs.Words.{Options, alone, command_named, command_of,
 use Rattle.command_words.specs.Forms.{command_in, command_matched, forms, options_in}
 use Rattle.command_words.specs.declared.command.Command.{Command}
 use Rattle.command_words.specs.declared.command.Command.TheVariants.{Check, Plan, Order, Run, Load}
-use Rattle.command_words.proofs.Faulty.{IsFault, fault_stands, first_fault, no_fault, nothing≢something}
+use Rattle.command_words.proofs.Faulty.{IsFault, fault_stands, first_fault, no_fault}
 use Rattle.command_words.proofs.Given.{Shows, built_option, get, id_of, number_for}
 use Rattle.command_words.proofs.Seen.{AllApart, Sees, counted, dashes, first_apart, rest_apart, same_text, seen, sees_bundle, sees_dash, sees_long, sees_plain}
 use Rattle.command_words.proofs.Subcommand.{Knows, bare_fails, dashes_refused, leaf, reads_leaf}
+use Rattle.command_words.proofs.Somes.{some≢none}
 
 -- ---- the forms, built
 
@@ -120,7 +121,7 @@ knows_none : Knows [] nothing_final
 unfolding defaults_fault
 knows_none = record {
   named = λ which. inr refl;
-  by_id = λ which e. absurd (nothing≢something (built_option (id_of which)) (sym e));
+  by_id = λ which e. absurd (some≢none (built_option (id_of which)) (sym e));
   others = λ text e. refl;
   no_short = λ x. refl;
   no_place = refl;
@@ -153,7 +154,7 @@ other_name id text no_id = go (bytes_eq id text) refl
 
 refuse_run : (which : Bool) (v : Text) (o : Options) → get which o ≡ Some v
     → (number_for which v ≡ None) ⊎ (arg_by_long run_rules (id_of which) ≡ None) → run_command o ≡ None
-refuse_run true v o e (inr h) = absurd (nothing≢something (built_option (codes "workers")) h)
+refuse_run true v o e (inr h) = absurd (some≢none (built_option (codes "workers")) h)
 refuse_run true v o e (inl h) = go (is_some o.number)
   where
     go : (b : Bool) → cond b None (option_map (λ workers. Run workers) (workers_in o)) ≡ None
@@ -163,8 +164,8 @@ refuse_run false v o e bad = rw e refl
 
 refuse_load : (which : Bool) (v : Text) (o : Options) → get which o ≡ Some v
     → (number_for which v ≡ None) ⊎ (arg_by_long load_rules (id_of which) ≡ None) → load_command o ≡ None
-refuse_load true v o e (inr h) = absurd (nothing≢something (built_option (codes "workers")) h)
-refuse_load false v o e (inr h) = absurd (nothing≢something (built_option (codes "number")) h)
+refuse_load true v o e (inr h) = absurd (some≢none (built_option (codes "workers")) h)
+refuse_load false v o e (inr h) = absurd (some≢none (built_option (codes "number")) h)
 refuse_load false v o e (inl h) = rw (e, h) refl
 refuse_load true v o e (inl h) = go (number_in o)
   where
@@ -181,7 +182,7 @@ knows_run = record {
   ];
   by_id = λ which. elim which as (λ which. arg_by_long run_rules (id_of which) ≡ Some (built_option (id_of which)) → arg_by_id run_rules (id_of which) ≡ Some (built_option (id_of which))) [
     | true ↦ λ e. refl
-    | false ↦ λ e. absurd (nothing≢something (built_option (codes "number")) (sym e))
+    | false ↦ λ e. absurd (some≢none (built_option (codes "number")) (sym e))
   ];
   others = λ text no_id. rw (other_name (codes "workers") text (no_id true)) refl;
   no_short = λ x. refl;

@@ -1,10 +1,7 @@
 -- The kinds of faults that `clap` finds, as lists that are empty or not.
-use Rattle.std.proofs.Common.{◌≡◌, ◌∙◌, Bool, true, false, List, [], ◌∷◌, Some, None, is_some, ap, sym, true≢false}
+use Rattle.std.proofs.Common.{◌≡◌, ◌∙◌, Bool, true, false, List, [], ◌∷◌, ap, sym, true≢false}
 use Rattle.clap.specs.Kinds.{Kinds, or_else}
 use Rattle.clap.specs.declared.error.kind.ErrorKind.{ErrorKind}
-
-pub nothing≢something : {X : Type 0} (x : X) → Some x ≡ None → ⊥
-nothing≢something x e = true≢false (ap is_some e)
 
 abbrev has_some : {X : Type 0} → List X → Bool
 has_some [] = false

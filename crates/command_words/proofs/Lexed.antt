@@ -9,6 +9,7 @@ use Rattle.std.proofs.lemmas.List.Folds.{list_any_at}
 use Rattle.clap.proofs.CutLemmas.{Lacks, before_first-Lacks, list_any-Lacks}
 use Rattle.clap.specs.Lexer.{long_of, long_of_rest, name_and_value, has_byte, strip_byte, short_of, short_of_rest}
 use Rattle.clap.specs.Walk.{Text}
+use Rattle.command_words.proofs.Somes.{some-same, some≢none}
 
 abbrev pub is_equals : ℕ → Bool
 is_equals x = x == 61
@@ -35,12 +36,6 @@ cut_whole text = elim (cases_lt (position_or_len is_equals text) (length text)) 
 eq_of : (x c : ℕ) → (x == c) ≡ true → x ≡ c
 eq_of x c e = (Decides-eqb x c).0 e
 
-some_inj : {X : Type 0} (x y : X) → Some x ≡ Some y → x ≡ y
-some_inj x y e = ap (λ o. Rattle.std.specs.Option.unwrap_or o x) e
-
-some≢none : {X : Type 0} (x : X) → Some x ≡ None → ⊥
-some≢none x e = true≢false (ap (λ o. Rattle.std.specs.Option.is_some o) e)
-
 -- a word that the lexer takes for a long flag
 pub long_whole : (word : Text) (p : Text × Option Text) → long_of word ≡ Some p → word ≡ 45 ∷ 45 ∷ (p.0 ++ joined_tail p.1)
 long_whole [] p e = absurd (some≢none p (sym e))
@@ -48,7 +43,7 @@ long_whole (x ∷ xs) p e = first (x == 45) refl e
   where
     rest : (ys : Text) → long_of_rest ys ≡ Some p → ys ≡ p.0 ++ joined_tail p.1
     rest [] f = absurd (some≢none p (sym f))
-    rest (y ∷ ys) f = cut_whole (y ∷ ys) ∙ ap (λ (q : Text × Option Text). q.0 ++ joined_tail q.1) (some_inj _ _ f)
+    rest (y ∷ ys) f = cut_whole (y ∷ ys) ∙ ap (λ (q : Text × Option Text). q.0 ++ joined_tail q.1) (some-same _ _ f)
 
     second : (ys : Text) → Rattle.std.specs.Prelude.option_and_then long_of_rest (strip_byte 45 ys) ≡ Some p → ys ≡ 45 ∷ (p.0 ++ joined_tail p.1)
     second [] f = absurd (some≢none p (sym f))
@@ -76,7 +71,7 @@ short_whole (x ∷ xs) flags e = first (x == 45) refl e
       where
         go : (b : Bool) → Rattle.std.specs.Prelude.cond b None (Some (y ∷ ys)) ≡ Some flags → y ∷ ys ≡ flags
         go true g = absurd (some≢none flags (sym g))
-        go false g = some_inj _ _ g
+        go false g = some-same _ _ g
 
     first : (b : Bool) → (x == 45) ≡ b → Rattle.std.specs.Prelude.option_and_then short_of_rest (Rattle.std.specs.Prelude.cond b (Some xs) None) ≡ Some flags → x ∷ xs ≡ 45 ∷ flags
     first true t g = (λ i. eq_of x 45 t i ∷ rest xs g i)
@@ -92,7 +87,7 @@ short_not_empty (x ∷ xs) flags e = first (x == 45) e
       where
         go : (b : Bool) → Rattle.std.specs.Prelude.cond b None (Some (y ∷ ys)) ≡ Some flags → (x : ℕ) × (xs : Text) × (flags ≡ x ∷ xs)
         go true g = absurd (some≢none flags (sym g))
-        go false g = (y, ys, sym (some_inj _ _ g))
+        go false g = (y, ys, sym (some-same _ _ g))
 
     first : (b : Bool) → Rattle.std.specs.Prelude.option_and_then short_of_rest (Rattle.std.specs.Prelude.cond b (Some xs) None) ≡ Some flags → (x : ℕ) × (xs : Text) × (flags ≡ x ∷ xs)
     first true g = rest xs g

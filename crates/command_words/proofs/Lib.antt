@@ -3,5 +3,6 @@ pub mod Faulty
 pub mod Given
 pub mod Lexed
 pub mod Seen
+pub mod Somes
 pub mod Subcommand
 pub mod Within

@@ -11,10 +11,11 @@ use Rattle.clap.specs.Faults.{check_fault, defaults_fault, long_fault, settle_fa
 use Rattle.clap.specs.declared.error.kind.ErrorKind.TheVariants as kind
 use Rattle.command_words.specs.Words.{Options, no_options, options_from, with_one_word, is_option_name}
 use Rattle.command_words.specs.declared.command.Command.{Command}
-use Rattle.command_words.proofs.Faulty.{IsFault, nothing≢something, first_fault, second_fault, no_fault, fault_stands}
+use Rattle.command_words.proofs.Faulty.{IsFault, first_fault, second_fault, no_fault, fault_stands}
 use Rattle.command_words.proofs.Given.{Shows, built_option, get, get_set, id_of, joint, no_number, number_for, put, put_none, put_some, set, shows_more, single, use_again, use_first}
 use Rattle.command_words.proofs.Lexed.{joined_tail, long_whole, short_whole}
 use Rattle.command_words.proofs.Seen.{AllApart, Sees, Sort, counted, dashes, first_apart, is_joint, is_other, is_single, rest_apart, same_text, seen, sees_bundle, sees_dash, sees_long, sees_plain, sorted}
+use Rattle.command_words.proofs.Somes.{some-same, some≢none}
 
 abbrev pub leaf : Text → List Rule → Shape
 leaf name rules = record (new_shape name) {
@@ -70,11 +71,11 @@ module _ (name : Text) (c : List Rule) (final : Options → Option Command) (kno
 
   only_more : (w : Bool) (v : Text) (o : Options) → arg_by_long c (id_of w) ≡ Some (built_option (id_of w)) → Only o → Only (set w o v)
   only_more true v o named only = λ which. elim which as (λ which. arg_by_long c (id_of which) ≡ None → get which (set true o v) ≡ None) [
-    | true ↦ λ none. absurd (nothing≢something (built_option (id_of true)) (sym named ∙ none))
+    | true ↦ λ none. absurd (some≢none (built_option (id_of true)) (sym named ∙ none))
     | false ↦ λ none. only false none
   ]
   only_more false v o named only = λ which. elim which as (λ which. arg_by_long c (id_of which) ≡ None → get which (set false o v) ≡ None) [
-    | false ↦ λ none. absurd (nothing≢something (built_option (id_of false)) (sym named ∙ none))
+    | false ↦ λ none. absurd (some≢none (built_option (id_of false)) (sym named ∙ none))
     | true ↦ λ none. only true none
   ]
 
@@ -282,26 +283,23 @@ module _ (name : Text) (c : List Rule) (final : Options → Option Command) (kno
   then_none None k each = refl
   then_none (Some o) k each = each o refl
 
-  some_inj : (a b : Options) → Some a ≡ Some b → a ≡ b
-  some_inj a b e = ap (λ o. Rattle.std.specs.Option.unwrap_or o a) e
-
   -- a further option leaves those before it
   put_keeps : (w which : Bool) (o after : Options) (t v : Text) → put w o t ≡ Some after → get which o ≡ Some v → get which after ≡ Some v
   put_keeps w which o after t v gives has = go w which (get w o) refl gives has
     where
       go : (w which : Bool) (x : Option Text) → get w o ≡ x → put w o t ≡ Some after → get which o ≡ Some v → get which after ≡ Some v
-      go w which (Some u) is gives has = absurd (nothing≢something after (sym gives ∙ put_some w o t u is))
-      go true true None is gives has = absurd (nothing≢something v (sym has ∙ is))
-      go false false None is gives has = absurd (nothing≢something v (sym has ∙ is))
-      go true false None is gives has = ap (λ (p : Options). p.number) (sym (some_inj _ _ (sym (put_none true o t is) ∙ gives))) ∙ has
-      go false true None is gives has = ap (λ (p : Options). p.workers) (sym (some_inj _ _ (sym (put_none false o t is) ∙ gives))) ∙ has
+      go w which (Some u) is gives has = absurd (some≢none after (sym gives ∙ put_some w o t u is))
+      go true true None is gives has = absurd (some≢none v (sym has ∙ is))
+      go false false None is gives has = absurd (some≢none v (sym has ∙ is))
+      go true false None is gives has = ap (λ (p : Options). p.number) (sym (some-same _ _ (sym (put_none true o t is) ∙ gives))) ∙ has
+      go false true None is gives has = ap (λ (p : Options). p.workers) (sym (some-same _ _ (sym (put_none false o t is) ∙ gives))) ∙ has
 
   put_has : (w : Bool) (o after : Options) (t : Text) → put w o t ≡ Some after → get w after ≡ Some t
   put_has w o after t gives = go (get w o) refl
     where
       go : (x : Option Text) → get w o ≡ x → get w after ≡ Some t
-      go (Some u) is = absurd (nothing≢something after (sym gives ∙ put_some w o t u is))
-      go None is = ap (get w) (sym (some_inj _ _ (sym (put_none w o t is) ∙ gives))) ∙ get_set w o t
+      go (Some u) is = absurd (some≢none after (sym gives ∙ put_some w o t u is))
+      go None is = ap (get w) (sym (some-same _ _ (sym (put_none w o t is) ∙ gives))) ∙ get_set w o t
 
   abbrev IsBad : Bool → Text → Type 0
   IsBad which v = (number_for which v ≡ None) ⊎ (arg_by_long c (id_of which) ≡ None)
