@@ -16,6 +16,8 @@ mod made_configs;
 #[cfg(test)]
 mod maps;
 #[cfg(test)]
+mod orders;
+#[cfg(test)]
 mod plans;
 #[cfg(test)]
 mod rows;
