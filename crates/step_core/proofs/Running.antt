@@ -1,5 +1,5 @@
 -- Steps of a run, and what was written of its log.
-use Rattle.std.proofs.Common.{ℕ, ◌+◌, ◌<◌, ◌≡◌, true, false, ◌&&◌, arith, refl, sym, ◌∙◌, ap, subst, List, [], ◌++◌, length, append-nil, append_assoc}
+use Rattle.std.proofs.Common.{ℕ, ◌<◌, ◌≡◌, true, false, ◌&&◌, arith, refl, sym, ◌∙◌, ap, subst, List, [], ◌++◌, length, append-nil, append_assoc}
 use Rattle.std.specs.Prelude.{Err, Ok, OnOk, Option, Result, is_err}
 use Rattle.std.specs.List.{flat_map, list_all}
 use Rattle.std.proofs.lemmas.Bool.{and_parts}
@@ -20,6 +20,7 @@ use Rattle.scene_model.proofs.WrittenRows.{rows_writable}
 use Rattle.step_core.specs.Cores.{BeginsLog, Can, CoreView, IsAfter, IsDone, Released, did, opened, rows_out}
 use Rattle.step_core.specs.Running.{HasRun, IsRunning, text_out}
 use Rattle.step_core.proofs.Finding.{after_act_is, one_less_left}
+use Rattle.step_core.proofs.Releases.{begins_opened, none_opened}
 
 -- ---- orders
 
@@ -119,12 +120,13 @@ module _ (scene : Scene) (core next : CoreView) (of : core.scene ≡ scene) wher
   -- the text that was written is a first part of the log
   pub text_begins : BeginsLog core → (rest : List ℕ) × (log_of scene ≡ text_out core ++ rest)
   unfolding text_of log_of
-  text_begins begins =
-      (flat_map (line_of scene) begins.0,
-      ap (λ (l : List Row). header ++ flat_map (line_of scene) l) (sym (ap (λ (s : Scene). rows s (history s)) of) ∙ sym begins.1)
-      ∙ ap (λ (l : List ℕ). header ++ l) (flat_map-append (line_of scene) (rows_out core) begins.0)
-      ∙ sym (append_assoc header (flat_map (line_of scene) (rows_out core)) (flat_map (line_of scene) begins.0))
-      ∙ ap (λ (s : Scene). (header ++ flat_map (line_of s) (rows_out core)) ++ flat_map (line_of scene) begins.0) (sym of))
+  text_begins begins = (
+    flat_map (line_of scene) begins.0,
+    ap (λ (l : List Row). header ++ flat_map (line_of scene) l) (sym (ap (λ (s : Scene). rows s (history s)) of) ∙ sym begins.1)
+        ∙ ap (λ (l : List ℕ). header ++ l) (flat_map-append (line_of scene) (rows_out core) begins.0)
+        ∙ sym (append_assoc header (flat_map (line_of scene) (rows_out core)) (flat_map (line_of scene) begins.0))
+        ∙ ap (λ (s : Scene). (header ++ flat_map (line_of s) (rows_out core)) ++ flat_map (line_of scene) begins.0) (sym of),
+  )
 
   -- the lines of what is handed out come behind it
   pub text_more : (handed : List Row) → Released core handed next → text_out next ≡ text_out core ++ flat_map (line_of scene) handed

@@ -40,11 +40,7 @@ fn drive(
 ///
 /// The scene has no fault, and the plan fits it. The acts are a lawful order that finishes every application; which of these
 /// orders it is, is not fixed. The core holds all rows, so this is for scenes of moderate size.
-pub fn run_alone(
-    alloc: Global,
-    scene: &Scene,
-    plan: &Plan,
-) -> Result<(Core, Items<Act>), NoMemory>
+pub fn run_alone(alloc: Global, scene: &Scene, plan: &Plan) -> Result<(Core, Items<Act>), NoMemory>
     requires faultless { IsFaultless scene.now }
     requires fits { PlanFits scene.now plan.now }
     ensures { IfOk result (λ run. IsDone scene.now plan.now.limits.items run.1 run.0) }

@@ -1,4 +1,3 @@
-use Rattle.std.proofs.Common.{◌≡◌}
 use Rattle.std.specs.Prelude.{List, Option, ℕ}
 use Rattle.music_base.specs.Outside.{Took}
 use Rattle.step_core.specs.Running.{text_out}

@@ -1,6 +1,6 @@
-use Rattle.std.proofs.Common.{◌≡◌, List}
+use Rattle.std.proofs.Common.{List}
 use Rattle.std.specs.Prelude.{ℕ, Option}
-use Rattle.music_base.specs.Outside.{Took, TookPrefix}
+use Rattle.music_base.specs.Outside.{Took}
 use Rattle.std.specs.List.{flat_map}
 use Rattle.scene_model.specs.Logs.{line_of}
 use Rattle.scene_model.specs.declared.row.Row.{Row}
