@@ -9,4 +9,5 @@ pub mod Openings
 pub mod Places
 pub mod Ports
 pub mod RowParts
+pub mod ValueItems
 pub mod Views

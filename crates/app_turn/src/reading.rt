@@ -1,5 +1,5 @@
 //! What the inputs of an application read in a step.
-ghost use Rattle.std.specs.Prelude.{◌≡◌, ◌<◌, ◌≤◌, ◌^◌, ℕ, pos, IfOk, length, slice_index_or, map};
+ghost use Rattle.std.specs.Prelude.{◌≡◌, ◌<◌, ◌≤◌, ◌^◌, ℕ, ℤ, pos, IfOk, length, slice_index_or, map};
 ghost use Rattle.std.specs.List.{AllByRecursion};
 ghost use Rattle.music_base.specs.declared.item.Item.{Item};
 ghost use Rattle.music_base.specs.declared.item.Item.TheVariants.{Value};
@@ -49,6 +49,26 @@ fn items_of_words(alloc: Global, words: &[Heard]) -> Result<Items<Item>, NoMemor
     Ok(items)
 }
 
+/// These values of these indices, in their order, as items.
+fn items_of_values(
+    alloc: Global,
+    globals: &[u32],
+    values: &[Sample],
+) -> Result<Items<Item>, NoMemory>
+    requires { length values.now ≡ length globals.now }
+    ensures { (f : ℕ → ℤ) → values.now ≡ map f globals.now →
+        IfOk result (λ items. items ≡ map (λ g. Value g (f g)) globals.now) }
+{
+    let mut items = Items::new(alloc);
+    for place in 0..globals.len() {
+        items.push(Item::Value {
+            global: globals[place],
+            value: values[place],
+        })?;
+    }
+    Ok(items)
+}
+
 /// A value for each index, as an inbox reads it.
 fn values_read(
     alloc: Global,
@@ -59,14 +79,9 @@ fn values_read(
     requires { step ≤ 1_000_000 }
     ensures { IfOk result (λ items. items ≡ map (λ g. Value g (read inbox.now step g)) globals.now) }
 {
-    let mut items = Items::new(alloc);
-    for global in globals {
-        items.push(Item::Value {
-            global: *global,
-            value: inbox.value(step, *global),
-        })?;
-    }
-    Ok(items)
+    let mut values = vec![in alloc; Sample(0); globals.len()]?;
+    inbox.values(step, globals, &mut values);
+    items_of_values(alloc, globals, &values)
 }
 
 /// 0 for each index.
