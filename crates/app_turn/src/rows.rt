@@ -1,5 +1,5 @@
 //! The rows of a step, made of what its inputs read.
-ghost use Rattle.std.specs.Prelude.{◌≡◌, ◌+◌, ◌*◌, ◌<◌, ◌≤◌, ◌++◌, ℕ, [], map, length, slice_index_or, IfOk, OnOk};
+ghost use Rattle.std.specs.Prelude.{◌≡◌, ◌+◌, ◌*◌, ◌<◌, ◌≤◌, ◌++◌, ℕ, [], map, length, slice_index_or, IfOk, IfSome, OnOk};
 ghost use Rattle.std.specs.List.{flat_map};
 ghost use Rattle.std.specs.Option.{option_to_list};
 ghost use Rattle.index_maps.specs.Maps.{globals_of, rank_count};
@@ -8,10 +8,12 @@ ghost use Rattle.scene_model.specs.Faults.{IsFaultless};
 ghost use Rattle.scene_model.specs.Logs.{arrived_at, read_at, step_rows_in};
 ghost use Rattle.scene_model.specs.Scenes.{app_at, port_at};
 ghost use Rattle.scene_model.specs.Tables.{value_in};
+ghost use Rattle.rule_turns.specs.Turning.{AreAscending, AreInputs, IsInput};
 ghost use Rattle.app_turn.specs.Rows.{port_rows_of, rank_rows_of, row_of};
 
 use index_maps::PortMap;
 use music_base::{AppId, Item, Items, Nanos, NoMemory, PortId, Rank, Sample, TryCopy};
+use rule_turns::value_at;
 use scene_model::{Direction, PortDecl, PortKind, Row, RowItem, Scene};
 use std::alloc::Global;
 
@@ -50,19 +52,67 @@ fn value_in(items: &[Item], index: u32) -> Sample
     Sample(0)
 }
 
-/// Adds the values of a rank's indices.
+/// The value at a place, where that is one of this index.
+fn value_there(items: &[Item], place: usize, index: u32) -> Option<Sample>
+    requires { AreAscending 0 items.now }
+    ensures { IfSome result (λ value. value ≡ value_in items.now index) }
+{
+    value_at(items, place, index)
+}
+
+/// Where the index stands among values that ascend, found by halves. Whoever asks looks there and sees.
+fn place_by_halves(items: &[Item], index: u32) -> usize {
+    let mut low = 0;
+    let mut high = items.len();
+    while low < high {
+        let middle = low + (high - low) / 2;
+        match &items[middle] {
+            Item::Value { global, .. } if *global < index => low = middle + 1,
+            _ => high = middle,
+        }
+    }
+    low
+}
+
+/// The value of an index, looked for at a place first, then by halves.
+fn value_near(items: &[Item], near: usize, index: u32) -> Sample
+    requires { AreAscending 0 items.now }
+    ensures { result ≡ value_in items.now index }
+{
+    if let Some(value) = value_there(items, near, index) {
+        return value;
+    }
+    match value_there(items, place_by_halves(items, index), index) {
+        Some(value) => value,
+        None => value_in(items, index),
+    }
+}
+
+/// Where the first index of a rank stands among values that ascend.
+fn first_place(items: &[Item], ports: &PortMap, rank: Rank) -> usize
+    requires { rank < rank_count ports.now }
+{
+    match ports.global_at(rank, 0) {
+        Some(global) => place_by_halves(items, global),
+        None => 0,
+    }
+}
+
+/// Adds the values of a rank's indices. Where these are consecutive, so are the places of their values.
 fn push_values(
     rows: &mut Items<Row>,
     place: &ReadAt,
     ports: &PortMap,
     items: &[Item],
 ) -> Result<(), NoMemory>
-    requires { place.now.rank < rank_count ports.now }
+    requires rank { place.now.rank < rank_count ports.now }
+    requires ascend { AreAscending 0 items.now }
     ensures { OnOk result (rows.new ≡ rows.old ++ map (row_of place.now) (read_at (globals_of ports.now place.now.rank) (value_in items.now))) }
 {
+    let first = first_place(items, ports, place.rank);
     for local in 0..ports.size_at(place.rank) {
         if let Some(global) = ports.global_at(place.rank, local) {
-            let value = value_in(items, global);
+            let value = value_near(items, first.saturating_add(local as usize), global);
             rows.push(row_of(
                 place,
                 RowItem::Value {
@@ -138,7 +188,8 @@ fn push_rank(
     decl: &PortDecl,
     items: &[Item],
 ) -> Result<(), NoMemory>
-    requires { place.now.rank < rank_count decl.now.map }
+    requires rank { place.now.rank < rank_count decl.now.map }
+    requires shaped { IsInput decl.now.direction decl.now.kind decl.now items.now }
     ensures { OnOk result (rows.new ≡ rows.old ++ rank_rows_of decl.now place.now items.now) }
 {
     match (decl.direction, decl.kind) {
@@ -170,7 +221,8 @@ fn push_port(
     decl: &PortDecl,
     items: &[Item],
 ) -> Result<(), NoMemory>
-    requires { rank_count decl.now.map ≤ 64 }
+    requires few { rank_count decl.now.map ≤ 64 }
+    requires shaped { IsInput decl.now.direction decl.now.kind decl.now items.now }
     ensures { OnOk result (rows.new ≡ rows.old ++ port_rows_of decl.now clock app port items.now) }
 {
     for rank in 0..rank_count(&decl.map) {
@@ -209,6 +261,7 @@ pub fn rows_of(
     requires app { app < length scene.now.apps }
     requires step { step ≤ 1_000_000 }
     requires counted { length inputs.now ≡ length (app_at scene.now app).ports }
+    requires shaped { AreInputs (app_at scene.now app).ports inputs.now }
     ensures { IfOk result (λ rows. rows ≡ step_rows_in scene.now app step inputs.now) }
 {
     let decl = scene.app(app);

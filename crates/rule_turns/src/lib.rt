@@ -21,3 +21,4 @@ pub use laws::{applications_can_turn, inputs_have_their_shape, plans_turn};
 pub use plan::{PortUses, RuleUse, TurnPlan};
 pub use state::ScriptState;
 pub use turns::{outputs_by, turn};
+pub use values::value_at;

@@ -18,7 +18,7 @@ loop-local-preserved c =
       | in-Some+in_ok-push w ↦
           let at : w.in-Some.global ≡ slice_index globals local = sym (got_at globals local w.in-Some.global 0 (sym w.in-Some.ensures)) in
           let row : w.row_of.result ≡ value_row c.args.place.now globals (value_in c.args.items.now) local =
-          w.row_of.ensures ∙ ap (λ x. row_of c.args.place.now (ValueRow local w.in-Some.global x)) w.value_in-value.ensures
+          w.row_of.ensures ∙ ap (λ x. row_of c.args.place.now (ValueRow local w.in-Some.global x)) w.value_near-value.ensures
           ∙ ap (λ g. row_of c.args.place.now (ValueRow local g (value_in c.args.items.now g))) at in
           rw w.rows-is (map_more (value_row c.args.place.now globals (value_in c.args.items.now)) local c.args.rows.now c.loop-local.rows _ c.loop-local.invariant
           (w.in_ok-push.ensures.ok ∙ ap (λ y. c.loop-local.rows ++ y ∷ []) row))

@@ -11,6 +11,13 @@ use Rattle.app_turn.specs.Rows.{port_rows_of}
 use Rattle.app_turn.proofs.RowParts.{all_rows, flat_more}
 use Rattle.app_turn.proofs.rows.rows_of.Goals as goal
 
+pub push_port-requires-clause-shaped : goal.push_port-requires-clause-shaped
+push_port-requires-clause-shaped c =
+    let port = c.loop-port.port in
+    let decl : c.port.result.now ≡ port_at c.args.scene.now c.args.app port = c.port.ensures ∙ ap (λ (a : AppDecl). slice_index_or a.ports port no_port) c.app-decl.ensures in
+    let items : c.as_slice.result.now ≡ slice_index_or c.args.inputs.now port [] = c.as_slice.ensures ∙ get_or_read c.args.inputs.now port c.index-inputs-port.result c.loop-port-test.true c.index-inputs-port.is [] in
+    rw (decl, items) (c.requires.shaped.kinds port (omega (arith, c.loop-port-test.true, c.requires.counted)))
+
 pub loop-port-preserved : goal.loop-port-preserved
 loop-port-preserved c =
     let port = c.loop-port.port in
