@@ -8,6 +8,8 @@ mod config_texts;
 #[cfg(test)]
 mod copies;
 #[cfg(test)]
+mod cores;
+#[cfg(test)]
 mod cycles;
 #[cfg(test)]
 mod logs;
@@ -19,6 +21,8 @@ mod maps;
 mod orders;
 #[cfg(test)]
 mod plans;
+#[cfg(test)]
+mod releases;
 #[cfg(test)]
 mod rows;
 #[cfg(test)]
