@@ -31,8 +31,11 @@ enum Does {
 }
 
 const RUN_GEN: Does = Does::Run(0);
+
 const RUN_SINK: Does = Does::Run(1);
+
 const PUT: Does = Does::Put(0);
+
 const TAKE: Does = Does::Take(0);
 
 /// An order of all acts, in which the sender is ahead where it can be, and how many blocks lie on the connection after each.
