@@ -81,7 +81,7 @@ impl Queue {
         Ok(())
     }
 
-    /// Holds the rows behind the others. It takes no memory.
+    /// Holds the rows behind the others. It takes no memory, and a list without rows is not kept.
     pub fn admit(&mut self, rows: Items<Row>)
         requires spare { 1 ≤ self.old.spare }
         ensures { self.new ≡ record { rows = self.old.rows ++ rows; spare = self.old.spare - 1 } }
@@ -89,7 +89,7 @@ impl Queue {
         self.spare -= 1;
         if self.first.is_empty() {
             self.first = VecDeque::from_vec(rows.into_vec());
-        } else {
+        } else if !rows.is_empty() {
             self.later.push_back(rows).unwrap();
         }
     }
