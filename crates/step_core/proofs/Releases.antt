@@ -235,6 +235,8 @@ module _ (scene : Scene) (limits : List ℕ) (s : Counts) (released : List ℕ) 
         same_scene = refl;
         same_limits = refl;
         same_counts = refl;
+        counted = counted ∙ core.are_held.released_counted;
+        were_run = new_most_run;
         behind = stand_behind ∙ ap (λ l. rows_out from_core ++ l) (sym handed_is);
         each = new_past;
         begins = begin;
@@ -252,6 +254,17 @@ module _ (scene : Scene) (limits : List ℕ) (s : Counts) (released : List ℕ) 
         (λ a low high. let app : a < length scene.apps = omega (arith, high) in
         past-before scene a above (slice_index released a) (run_by s a) (run_by s a) (core.are_held.were_run a app) (omega arith) (λ k ran. is a k app ran)
         (λ k ge ran. absurd (omega (arith, ge, ran)))))
+
+-- ---- at the end
+
+-- where nothing was handed out and all applications are finished, the rows that are held are those of the log
+pub all_held_at_end : (scene : Scene) (limits : List ℕ) (s : Counts) → AllFinished scene s → rows_so_far (record { scene = scene; limits = limits; counts = s; released = (opened scene limits).released }) ≡ rows scene (history scene)
+unfolding rows_so_far
+all_held_at_end scene limits s done =
+    ap (in_order row_cmp)
+    (flat_map-agree_within (λ a. past_rows scene a (slice_index (opened scene limits).released a) (run_by s a)) (λ a. past_rows scene a 0 (steps scene a)) 0 (length scene.apps)
+    (λ a low high. ap (λ n. past_rows scene a n (run_by s a)) (zero_at (length scene.apps) a) ∙ ap (past_rows scene a 0) (done a (omega (arith, high))).all_run))
+    ∙ all_rows scene
 
 -- ---- before any act, and with each
 

@@ -17,10 +17,10 @@ use Rattle.scene_model.specs.declared.scene.Scene.{Scene}
 use Rattle.scene_model.proofs.Finish.{left_of}
 use Rattle.scene_model.proofs.WrittenLives.{history_written}
 use Rattle.scene_model.proofs.WrittenRows.{rows_writable}
-use Rattle.step_core.specs.Cores.{BeginsLog, Can, CoreView, IsAfter, IsDone, Released, did, opened, rows_out}
+use Rattle.step_core.specs.Cores.{BeginsLog, Can, CoreView, IsAfter, IsDone, Released, did, opened, rows_out, rows_so_far}
 use Rattle.step_core.specs.Running.{HasRun, IsRunning, text_out}
 use Rattle.step_core.proofs.Finding.{after_act_is, one_less_left}
-use Rattle.step_core.proofs.Releases.{begins_opened, none_opened}
+use Rattle.step_core.proofs.Releases.{all_held_at_end, begins_opened, none_opened}
 
 -- ---- orders
 
@@ -36,6 +36,16 @@ opened_after scene limits core counted is = record {
 -- nothing is left to do
 pub done_after : (scene : Scene) (limits : List ℕ) (acts : List Act) (core : CoreView) → IsAfter scene limits acts core → AllFinished core.scene core.counts → IsDone scene limits acts core
 done_after scene limits acts core is finished = record { is_after = is; finished = subst (λ (x : Scene). AllFinished x core.counts) is.is_scene finished }
+
+-- where nothing was handed out besides, all rows of the log are held
+pub held_when_done : (scene : Scene) (limits : List ℕ) (acts : List Act) (core : CoreView) → IsDone scene limits acts core → core.released ≡ (opened scene limits).released → rows_so_far core ≡ rows scene (history scene)
+held_when_done scene limits acts core done kept =
+    let after = done.is_after in
+    let is : core ≡ record { scene = scene; limits = limits; counts = core.counts; released = (opened scene limits).released } =
+    ap (λ (x : Scene). record { scene = x; limits = core.limits; counts = core.counts; released = core.released }) after.is_scene
+    ∙ ap (λ (x : List ℕ). record { scene = scene; limits = x; counts = core.counts; released = core.released }) after.are_limits
+    ∙ ap (λ (x : List ℕ). record { scene = scene; limits = limits; counts = core.counts; released = x }) kept in
+    ap rows_so_far is ∙ all_held_at_end scene limits core.counts done.finished
 
 same_out : (core : CoreView) (act : Act) → rows_out (did core act) ≡ rows_out core
 unfolding rows_out

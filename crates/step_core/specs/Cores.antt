@@ -138,6 +138,8 @@ pub record Released (before : CoreView) (handed : List Row) (after : CoreView) :
   pub same_scene : after.scene ≡ before.scene
   pub same_limits : after.limits ≡ before.limits
   pub same_counts : after.counts ≡ before.counts
+  pub counted : length after.released ≡ length before.scene.apps
+  pub were_run : (a : ℕ) → a < length before.scene.apps → slice_index after.released a ≤ run_by before.counts a
   pub behind : rows_out after ≡ rows_out before ++ handed
   pub each : (a k : ℕ) → a < length before.scene.apps → k < run_by before.counts a →
       (k < slice_index after.released a) ↔ IsPast before.scene before.counts a k

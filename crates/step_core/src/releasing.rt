@@ -50,11 +50,11 @@ fn count_before(scene: &Scene, least: Nanos, counts: &mut [u64])
 }
 
 impl Core {
-    /// The rows of all steps that are past and were not handed out, in the order of the log. A step is past where its clock is
-    /// below that of each step that is left, so that no row is still to come before its rows: at the end all are.
+    /// The rows of all steps that are past and were not handed out, in the order of the log. A step is past where its clock
+    /// is below that of each step that is left, so that no row is still to come before its rows: at the end all are.
     ///
-    /// What one call answers stands in the log just behind what the calls before it did. Where memory is wanting the core is as
-    /// it was.
+    /// What one call answers stands in the log just behind what the calls before it did. Where memory is wanting the core
+    /// is as it was.
     pub fn release(&mut self, alloc: Global) -> Result<Items<Row>, NoMemory>
         ensures { MatchResult result (λ rows. Released self.old rows self.new) (λ _. self.new ≡ self.old) }
     {

@@ -184,6 +184,7 @@ impl Core {
         ensures found { MatchOption result (AllFinished self.now.scene self.now.counts) (λ act. Can self.now act) }
         ensures none { AllFinished self.now.scene self.now.counts → result ≡ None }
     {
+        // What a core keeps true of itself is known where one of its fields is used.
         let _ = &self.scene;
         match self.link_act() {
             Some(act) => Some(act),

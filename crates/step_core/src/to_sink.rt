@@ -89,11 +89,12 @@ fn drive<K: Sink>(
     write_released(alloc, scene, core, log, sink)
 }
 
-/// Drives all applications of a scene to their ends, under the limits of a plan, and writes the log of the scene as it goes.
-/// The memory that it takes does not grow with the log.
+/// Drives all applications of a scene to their ends, under the limits of a plan, and writes the log of the scene as it
+/// goes: as soon as many rows are held, those that none can come before. So the memory that it takes does not grow with the
+/// log, though no clause says how much it is.
 ///
-/// The scene has no fault, and the plan fits it. The sink takes exactly the log of the scene's history. Where the sink fails, or
-/// memory gives out, it took a prefix of that, and nothing more is tried.
+/// The scene has no fault, and the plan fits it. The sink takes exactly the log of the scene's history. Where the sink
+/// fails, or memory gives out, it took a prefix of that, and nothing more is tried.
 pub fn run_to_sink<K: Sink>(
     alloc: Global,
     scene: &Scene,
