@@ -5,7 +5,7 @@ pub enum Command {
     Check,
     /// Write how many blocks each connection of the scene keeps at most.
     Plan,
-    /// Write the order of acts in which the scene is run.
+    /// Write an order in which the applications of the scene can act, each of them to its end.
     Order,
     /// Run the scene of the text and write its log.
     Run {
