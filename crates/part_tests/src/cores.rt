@@ -1,8 +1,9 @@
 //! The acts of a core over a scene of two applications: which are allowed, and how many blocks lie on the connection after each.
-ghost use Rattle.std.specs.Prelude.{◌≡◌, IfSome};
+ghost use Rattle.std.specs.Prelude.{◌≡◌, ◌<◌, IfSome, length};
 ghost use Rattle.scene_model.specs.Faults.{IsFaultless};
 
 use crate::plans::scene_of;
+use crate::texts::SPIKES;
 use music_base::{AppId, LinkId};
 use scene_model::{Act, Scene};
 use std::alloc::Global;
@@ -96,6 +97,13 @@ fn core_of(alloc: Global, scene: &Scene) -> Option<Core>
     Core::start(alloc, scene, &plan).ok()
 }
 
+/// Does an act, if it is allowed. Whether it was done.
+fn is_done(alloc: Global, core: &mut Core, act: &Act) -> bool
+    ensures { core.new.scene ≡ core.old.scene }
+{
+    core.can(*act) && core.act(alloc, *act).is_ok()
+}
+
 /// Whether each of these acts is allowed in its turn, and so many blocks lie on the first connection after it.
 fn does_all(alloc: Global, scene: &Scene, core: &mut Core, order: &[(Does, u64)]) -> bool
     requires { core.old.scene ≡ scene.now }
@@ -104,11 +112,8 @@ fn does_all(alloc: Global, scene: &Scene, core: &mut Core, order: &[(Does, u64)]
     if scene.links.len() == 0 {
         return false;
     }
-    for (does, held) in order {
-        if !core.can(act_of(*does)) || core.act(alloc, act_of(*does)).is_err() {
-            return false;
-        }
-        if core.held(LinkId(0)) != *held {
+    for (act, held) in order {
+        if !is_done(alloc, core, &act_of(*act)) || core.held(LinkId(0)) != *held {
             return false;
         }
     }
@@ -153,6 +158,87 @@ fn acts_found(alloc: Global) -> Option<usize> {
     None
 }
 
+/// How many steps were run of the sender and of the receiver, and how many blocks were put and taken.
+#[derive(Clone, Copy, Debug, PartialEq, Eq)]
+struct Counts {
+    sent: u64,
+    received: u64,
+    put: u64,
+    taken: u64,
+}
+
+const NONE: Counts = Counts {
+    sent: 0,
+    received: 0,
+    put: 0,
+    taken: 0,
+};
+
+/// Twenty steps of the sender and two of the receiver, of which each wants ten blocks.
+const ALL: Counts = Counts {
+    sent: 20,
+    received: 2,
+    put: 20,
+    taken: 20,
+};
+
+/// The counts with one act more.
+fn with_act(counts: Counts, act: &Act) -> Counts {
+    match act {
+        Act::Run(app) if app.0 == 0 => Counts {
+            sent: counts.sent.saturating_add(1),
+            ..counts
+        },
+        Act::Run(_) => Counts {
+            received: counts.received.saturating_add(1),
+            ..counts
+        },
+        Act::Put(_) => Counts {
+            put: counts.put.saturating_add(1),
+            ..counts
+        },
+        Act::Take(_) => Counts {
+            taken: counts.taken.saturating_add(1),
+            ..counts
+        },
+    }
+}
+
+/// Whether as many blocks lie on the first connection as were put and not taken.
+fn holds(core: &Core, counts: Counts) -> bool
+    requires { 0 < length core.now.scene.links }
+{
+    counts.taken.saturating_add(core.held(LinkId(0))) == counts.put
+}
+
+/// What was done once no act is found any more, where these are fewer than a hundred acts and what lies on the first connection
+/// is right after each.
+fn counts_found(alloc: Global, scene: &Scene, core: &mut Core) -> Option<Counts>
+    requires { core.old.scene ≡ scene.now }
+{
+    if scene.links.len() == 0 {
+        return None;
+    }
+    let mut counts = NONE;
+    for _ in 0..100 {
+        let Some(act) = core.some_act() else {
+            return Some(counts);
+        };
+        counts = with_act(counts, &act);
+        if !is_done(alloc, core, &act) || !holds(core, counts) {
+            return None;
+        }
+    }
+    None
+}
+
+/// What is done of a scene in which a step of the receiver lasts as long as ten of the sender.
+fn counts_of_spikes(alloc: Global) -> Option<Counts> {
+    let scene = scene_of(alloc, SPIKES).ok()?;
+    let mut core = core_of(alloc, &scene)?;
+    counts_found(alloc, &scene, &mut core)
+}
+
 #[test]
 fn an_order_of_all_acts_is_allowed(rt: HostRuntime) {
     assert!(rt; does_order(rt.alloc()));
@@ -168,4 +254,9 @@ fn other_acts_are_refused(rt: HostRuntime) {
 #[test]
 fn acts_are_found_until_all_is_done(rt: HostRuntime) {
     assert!(rt; acts_found(rt.alloc()) == Some(12));
+}
+
+#[test]
+fn blocks_that_were_not_taken_are_held(rt: HostRuntime) {
+    assert!(rt; counts_of_spikes(rt.alloc()) == Some(ALL));
 }

@@ -75,7 +75,7 @@ const WATCH: u32 = 4;
 
 /// What a row tells: local place, global index and time or value, or time and word.
 #[derive(Clone, Copy)]
-enum Told {
+pub enum Told {
     Event(u32, u32, u64),
     Value(u32, i64),
     Message(u64, &'static [u8]),
@@ -84,9 +84,9 @@ enum Told {
 use Told::{Event, Message, Value};
 
 /// Clock, application, port, rank, and what is told. The indices of values are their local places.
-type Case = (u64, u32, u32, u32, Told);
+pub type ToldRow = (u64, u32, u32, u32, Told);
 
-const ROWS: &[Case] = &[
+pub const ROWS: &[ToldRow] = &[
     (0, WAVE, 1, 0, Message(500_000, b"go")),
     (0, WATCH, 0, 0, Value(0, 0)),
     (0, WATCH, 0, 0, Value(1, 0)),
@@ -124,7 +124,7 @@ fn item_of(alloc: Global, told: Told) -> Result<RowItem, NoMemory> {
     }
 }
 
-fn row_of(alloc: Global, case: &Case) -> Result<Row, NoMemory> {
+fn row_of(alloc: Global, case: &ToldRow) -> Result<Row, NoMemory> {
     let (clock, app, port, rank, told) = *case;
     Ok(Row {
         clock: Nanos(clock),

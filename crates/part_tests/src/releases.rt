@@ -1,4 +1,5 @@
 //! Rows that a core hands out behind each act, worked out by hand.
+use crate::logs::{ROWS, SCENE, ToldRow};
 use crate::plans::scene_of;
 use music_base::{AppId, LinkId, NoMemory};
 use scene_model::{Act, Row};
@@ -82,7 +83,9 @@ fn are_at(rows: &[Row], places: &[(u64, u32)]) -> bool {
         return false;
     }
     for index in 0..rows.len() {
-        if rows[index].clock.0 != places[index].0 || rows[index].app.0 != places[index].1 {
+        let row = &rows[index];
+        let (clock, app) = places[index];
+        if row.clock.0 != clock || row.app.0 != app {
             return false;
         }
     }
@@ -135,4 +138,129 @@ fn rows_that_were_not_handed_out_are_answered_in_order(rt: HostRuntime) {
         panic!(rt; "there is enough memory");
     };
     assert!(rt; are_at(rows.as_slice(), ALL));
+}
+
+/// Whether the rows have the clocks, applications, ports and ranks of these.
+fn are_of(rows: &[Row], cases: &[ToldRow]) -> bool {
+    if rows.len() != cases.len() {
+        return false;
+    }
+    for index in 0..rows.len() {
+        let row = &rows[index];
+        let (clock, app, port, rank, _) = cases[index];
+        if row.clock.0 != clock || row.app.0 != app || row.port.0 != port || row.rank.0 != rank {
+            return false;
+        }
+    }
+    true
+}
+
+/// What is left of the cases behind those of the rows, where they begin with these.
+fn behind<'a>(rows: &[Row], cases: &'a [ToldRow]) -> Option<&'a [ToldRow]> {
+    let first = cases.get(..rows.len())?;
+    if !are_of(rows, first) {
+        return None;
+    }
+    cases.get(rows.len()..)
+}
+
+/// Whether acts are found until all rows of the log were handed out in their order, and these are fewer than a hundred.
+fn are_all_handed_out(alloc: Global, core: &mut Core) -> Result<bool, NoMemory> {
+    let mut left = ROWS;
+    for _ in 0..100 {
+        let Some(act) = core.some_act() else {
+            return Ok(left.is_empty());
+        };
+        core.act(alloc, act)?;
+        let rows = core.release(alloc)?;
+        let Some(rest) = behind(rows.as_slice(), left) else {
+            return Ok(false);
+        };
+        left = rest;
+    }
+    Ok(false)
+}
+
+#[test]
+fn the_rows_of_five_applications_are_handed_out(rt: HostRuntime) {
+    let Some(mut core) = core_of(rt.alloc(), SCENE) else {
+        panic!(rt; "the text has a scene with a plan");
+    };
+    assert!(rt; are_all_handed_out(rt.alloc(), &mut core) == Ok(true));
+}
+
+/// How many steps of each application have a clock of at most 1 ms.
+const EARLY_STEPS: &[u64] = &[2, 2, 1, 1, 2];
+
+const APPS: u32 = 5;
+
+const LINKS: u32 = 6;
+
+/// An act of a connection that is allowed.
+fn link_act(core: &Core) -> Option<Act> {
+    for place in 0..LINKS {
+        let link = LinkId(place);
+        if core.can(Act::Take(link)) {
+            return Some(Act::Take(link));
+        }
+        if core.can(Act::Put(link)) {
+            return Some(Act::Put(link));
+        }
+    }
+    None
+}
+
+/// A step that is allowed, of an application that has one left here. It is counted.
+fn step_act(core: &Core, left: &mut [u64]) -> Option<Act> {
+    for app in 0..APPS {
+        let place = app as usize;
+        if place < left.len() && left[place] > 0 && core.can(Act::Run(AppId(app))) {
+            left[place] -= 1;
+            return Some(Act::Run(AppId(app)));
+        }
+    }
+    None
+}
+
+fn next_act(core: &Core, left: &mut [u64]) -> Option<Act> {
+    match link_act(core) {
+        Some(act) => Some(act),
+        None => step_act(core, left),
+    }
+}
+
+/// Does acts of connections and so many steps of each application, until none of them is allowed. Whether all these steps were
+/// run, in fewer than a hundred acts.
+fn are_run(alloc: Global, core: &mut Core, left: &mut [u64]) -> Result<bool, NoMemory> {
+    for _ in 0..100 {
+        let Some(act) = next_act(core, left) else {
+            return Ok(left.iter().all(|count| *count == 0));
+        };
+        if !does(alloc, core, &act)? {
+            return Ok(false);
+        }
+    }
+    Ok(false)
+}
+
+/// Whether the steps up to 1 ms can be run, and their rows are then handed out at once.
+fn are_early_handed_out(alloc: Global, core: &mut Core) -> Result<bool, NoMemory> {
+    let mut left = EARLY_STEPS.to_vec(alloc)?;
+    if !are_run(alloc, core, &mut left)? {
+        return Ok(false);
+    }
+    let rows = core.release(alloc)?;
+    let Some(early) = ROWS.get(..6) else {
+        return Ok(false);
+    };
+    Ok(are_of(rows.as_slice(), early))
+}
+
+// The first six rows of the log are those of the clocks 0 and 1000000.
+#[test]
+fn rows_of_early_clocks_are_handed_out_at_once(rt: HostRuntime) {
+    let Some(mut core) = core_of(rt.alloc(), SCENE) else {
+        panic!(rt; "the text has a scene with a plan");
+    };
+    assert!(rt; are_early_handed_out(rt.alloc(), &mut core) == Ok(true));
 }
