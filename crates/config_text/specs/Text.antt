@@ -9,6 +9,7 @@ use Rattle.config_text.specs.declared.link_text.LinkText.{LinkText}
 use Rattle.config_text.specs.declared.config.Config.{Config}
 use Rattle.config_text.specs.Pairs.{SettingList, SectionList, value_of, last_value}
 use Rattle.config_text.specs.Lines.{raw_lines, longest_text}
+use Rattle.config_text.specs.Lawful.{most_sections, most_links}
 use Rattle.config_text.specs.Contents.{Content, blank, section, setting, connection, content_of}
 
 -- what a line says, or the fault that it has by itself
@@ -43,12 +44,6 @@ abbrev pub config_of : List Line → Config
 config_of lines = record { defaults = settings_before_section lines; sections = sections_of lines; links = links_of lines }
 
 -- ---- faults
-
-abbrev pub most_sections : ℕ
-most_sections = 32
-
-abbrev pub most_links : ℕ
-most_links = 64
 
 -- the settings of the last section, or the defaults where there is no section
 abbrev pub open_settings : Config → SettingList

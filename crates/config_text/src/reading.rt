@@ -15,14 +15,8 @@ use crate::connection::Connection;
 use crate::content::{LentContent, content_of};
 use crate::lines::{LONGEST_TEXT, split_line};
 use crate::{Config, LinkText, Settings, TextFault, TextKind};
-use music_base::{Name, Nanos, NoMemory, Word};
+use music_base::{MOST_APPS, MOST_LINKS, Name, Nanos, NoMemory, Word};
 use std::alloc::Global;
-
-/// How many sections a text may have.
-const MOST_SECTIONS: usize = 32;
-
-/// How many connections a text may have.
-const MOST_LINKS: usize = 64;
 
 /// Why a line was not read into the configuration.
 #[derive(Clone, Copy)]
@@ -44,7 +38,7 @@ fn section_fault(config: &Config, name: &Name) -> Option<TextKind>
 {
     if config.sections.contains(name) {
         Some(TextKind::RepeatedSection)
-    } else if config.sections.len() >= MOST_SECTIONS {
+    } else if config.sections.len() >= MOST_APPS {
         Some(TextKind::TooManySections)
     } else {
         None

@@ -5,6 +5,7 @@ use Rattle.std.specs.Fmt.{decimal}
 use Rattle.std.specs.Char.{is_ascii_digit}
 use Rattle.std.specs.Str.Parse.{digits_value, starts_with_minus, without_leading_sign}
 use Rattle.music_base.specs.Counts.{is_short_count}
+use Rattle.music_base.specs.declared.limits.TheConstants.{GREATEST_TIME}
 use Rattle.music_base.specs.declared.times.TimeFault.{TimeFault}
 use Rattle.music_base.specs.declared.times.TimeFault.TheVariants.{Spelling, NotWhole, Range}
 
@@ -37,7 +38,7 @@ nano_places = 9
 
 -- the greatest time that is read, in nanoseconds
 abbrev pub greatest_time : ℕ
-greatest_time = 10 ^ 15
+greatest_time = GREATEST_TIME
 
 -- how many bytes a time text has at most
 abbrev pub longest_time_text : ℕ

@@ -36,7 +36,7 @@ pub use counts::{count_up_to, is_negative, is_short_count, number_of, without_si
 pub use errors::{Failed, NoMemory};
 pub use gate::{FreeGate, Gate};
 pub use item::{Block, Event, Item, Message};
-pub use limits::MOST_BUFFERED;
+pub use limits::{GREATEST_TIME, MOST_APPS, MOST_BUFFERED, MOST_LINKS};
 pub use list::Items;
 pub use memory_sink::MemorySink;
 pub use memory_source::MemorySource;

@@ -2,16 +2,13 @@
 ghost use Rattle.std.specs.Prelude.{◌≡◌, ◌*◌, ◌^◌, ◌<◌};
 ghost use Rattle.music_base.specs.Times.{in_range, scaled};
 
-use crate::{Nanos, TimeFault};
-
-/// The greatest time that is read, in nanoseconds.
-const GREATEST: u128 = 1_000_000_000_000_000;
+use crate::{GREATEST_TIME, Nanos, TimeFault};
 
 /// So many nanoseconds, where no time is greater.
 fn in_range(nanos: u128) -> Result<Nanos, TimeFault>
     ensures { result ≡ in_range nanos }
 {
-    if nanos <= GREATEST {
+    if nanos <= GREATEST_TIME {
         Ok(Nanos(nanos as u64))
     } else {
         Err(TimeFault::Range)
@@ -23,7 +20,7 @@ fn multiplied(digits: u128, by: u32) -> Result<Nanos, TimeFault>
     requires { 0 < digits }
     ensures { result ≡ in_range (digits * 10 ^ by) }
 {
-    if by > 15 || digits > GREATEST {
+    if by > 15 || digits > GREATEST_TIME {
         return Err(TimeFault::Range);
     }
     in_range(digits * u128::from(10u64.pow(by)))

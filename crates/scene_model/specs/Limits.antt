@@ -1,7 +1,6 @@
--- The limits of a scene. Each is itself accepted. The greatest time and the limit of global indices stand in the crates
--- below.
+-- The limits of a scene. Each is itself accepted. The greatest time stands in a crate below.
 use Rattle.std.specs.Prelude.{ℕ, ◌-◌, ◌^◌}
-use Rattle.music_base.specs.declared.limits.TheConstants.{MOST_BUFFERED}
+use Rattle.music_base.specs.declared.limits.TheConstants.{MOST_APPS, MOST_BUFFERED, MOST_LINKS}
 use Rattle.index_maps.specs.declared.span.TheConstants.{INDEX_LIMIT}
 use Rattle.scene_model.specs.declared.limits.TheConstants.{MOST_RANKS, MOST_PORTS, MOST_RULES, GREATEST_INDEX, LONGEST_TICK, MOST_STEPS, MOST_VALUES, MOST_PERIODS, GREATEST_SHIFT, GREATEST_NUMERATOR, GREATEST_DENOMINATOR}
 
@@ -9,10 +8,10 @@ use Rattle.scene_model.specs.declared.limits.TheConstants.{MOST_RANKS, MOST_PORT
 
 -- how many applications a scene has at most, and how many connections
 abbrev pub most_apps : ℕ
-most_apps = 32
+most_apps = MOST_APPS
 
 abbrev pub most_links : ℕ
-most_links = 64
+most_links = MOST_LINKS
 
 -- how many processes an application has at most, each a rank, how many ports, and how many rules
 abbrev pub most_ranks : ℕ

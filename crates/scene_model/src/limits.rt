@@ -1,5 +1,5 @@
-//! The limits of a scene. Each is itself accepted. The greatest time, how much may be buffered, and the limit of global
-//! indices stand in the crates below.
+//! The limits of a scene. Each is itself accepted. How many applications and connections there are, the greatest
+//! time, how much may be buffered, and the limit of global indices stand in the crates below.
 
 /// How many processes an application has at most, each a rank.
 pub const MOST_RANKS: u32 = 64;
