@@ -3,7 +3,6 @@ pub mod Counts
 pub mod CutSteps
 pub mod Halving
 pub mod Joining
-pub mod OneSpan
 pub mod Pigeonholes
 pub mod Positions
 pub mod Ranges

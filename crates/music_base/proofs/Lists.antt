@@ -1,13 +1,12 @@
 -- What filter, map and flat_map give, and consecutive numbers.
-use Rattle.std.proofs.Common.{◌≡◌, ℕ, zero, suc, ◌+◌, ◌<◌, ◌≤◌, min, Bool, true, false, cond, not, ◌&&◌, nat_eq, nat_le, nat_lt, List, [], ◌∷◌, ◌++◌, length, get_or, map, refl, sym, ap, inl, inr, arith, add-zero, zero-add}
+use Rattle.std.proofs.Common.{◌≡◌, ℕ, zero, suc, ◌+◌, ◌<◌, ◌≤◌, Bool, true, false, cond, not, ◌&&◌, nat_eq, nat_le, nat_lt, List, [], ◌∷◌, ◌++◌, length, get_or, map, refl, sym, ap, inl, inr, arith, add-zero, zero-add}
 use Rattle.std.specs.Prelude.{◌==◌}
 use Rattle.std.specs.declared.cmp.Ordering.{Ordering}
 use Rattle.std.specs.Ordering.{is_gt}
-use Rattle.std.specs.List.{filter, flat_map, list_all, list_any, range_with_len, AllByRecursion}
-use Rattle.std.proofs.lemmas.Bool.{cases_Bool, cases_eq, cases_lt, eq-eqb, ne_eqb, lt-ltb, le-ltb, and_parts, or_parts, not-true}
+use Rattle.std.specs.List.{filter, flat_map, list_any, range_with_len, AllByRecursion}
+use Rattle.std.proofs.lemmas.Bool.{cases_Bool, cases_eq, cases_lt, eq-eqb, ne_eqb, and_parts, or_parts, not-true}
 use Rattle.std.proofs.lemmas.Bool.Decides.{nat_tests}
 use Rattle.std.proofs.lemmas.List.{map-append}
-use Rattle.std.proofs.lemmas.List.Elements.{filter-append}
 use Rattle.std.proofs.lemmas.List.Folds.{list_any-append}
 use Rattle.music_base.specs.Numbers.{all_differ, below, in_order, put_in_order}
 
@@ -130,21 +129,6 @@ pub filter-none : {X : Type 0} (p : X → Bool) (xs : List X) → AllByRecursion
 filter-none p [] h = refl
 filter-none p (x ∷ xs) h = rw h.0 (filter-none p xs h.1)
 
-pub filter-map : {X Y : Type 0} (p : Y → Bool) (f : X → Y) (xs : List X) → filter p (map f xs) ≡ map f (filter (λ x. p (f x)) xs)
-filter-map p f [] = refl
-filter-map p f (x ∷ xs) = elim (cases_Bool (p (f x))) [
-  | inl t ↦ rw (t, filter-map p f xs) refl
-  | inr e ↦ rw (e, filter-map p f xs) refl
-]
-
--- two filters are one
-pub filter-filter : {X : Type 0} (p q : X → Bool) (xs : List X) → filter p (filter q xs) ≡ filter (λ x. p x && q x) xs
-filter-filter p q [] = refl
-filter-filter p q (x ∷ xs) = elim (cases_Bool (q x)) [
-  | inl t ↦ elim (cases_Bool (p x)) [ inl u ↦ rw (t, u) (ap (λ ys. x ∷ ys) (filter-filter p q xs)) | inr u ↦ rw (t, u) (filter-filter p q xs) ]
-  | inr t ↦ elim (cases_Bool (p x)) [ inl u ↦ rw (t, u) (filter-filter p q xs) | inr u ↦ rw (t, u) (filter-filter p q xs) ]
-]
-
 -- tests that agree on consecutive numbers
 pub filter-agree_within : (p q : ℕ → Bool) (a n : ℕ) → ((i : ℕ) → a ≤ i → i < a + n → p i ≡ q i) → filter p (range_with_len a n) ≡ filter q (range_with_len a n)
 filter-agree_within p q a zero same = refl
@@ -164,17 +148,6 @@ filter-range_with_len_one p a (suc n) low high = elim (cases_eq a p) [
       let more : a + 1 ≤ p = elim (cases_lt a p) [ inl lt ↦ omega arith | inr le ↦ absurd (other (omega arith)) ] in
       rw f (filter-range_with_len_one p (a + 1) n more (omega arith))
 ]
-
--- those of them that lie below an end
-pub filter-range_with_len_front : (m a n end : ℕ) → a + m ≡ end → filter (λ i. nat_lt i end) (range_with_len a n) ≡ range_with_len a (min n m)
-filter-range_with_len_front zero a n end is =
-    let none : min n 0 ≡ 0 = omega arith in
-    rw none (filter-none (λ i. nat_lt i end) (range_with_len a n) (All-range_with_len (λ i. nat_lt i end ≡ false) a n (λ i low. le-ltb i end (omega arith))))
-filter-range_with_len_front (suc m) a zero end is = let none : min 0 (suc m) ≡ 0 = omega arith in rw none refl
-filter-range_with_len_front (suc m) a (suc n) end is =
-    let more : min (suc n) (suc m) ≡ suc (min n m) = omega arith in
-    let passes : nat_lt a end ≡ true = lt-ltb a end (omega arith) in
-    rw (more, passes) (ap (λ xs. a ∷ xs) (filter-range_with_len_front m (a + 1) n end (omega arith)))
 
 -- a number is among consecutive ones where it lies between their ends
 pub list_any-range_with_len : (g a n : ℕ) → list_any (λ i. i == g) (range_with_len a n) ≡ (nat_le a g && nat_lt g (a + n))
@@ -200,19 +173,6 @@ pub map-map : {X Y Z : Type 0} (g : Y → Z) (f : X → Y) (xs : List X) → map
 map-map g f [] = refl
 map-map g f (x ∷ xs) = ap (λ ys. g (f x) ∷ ys) (map-map g f xs)
 
--- a test that all values of a function pass
-pub list_all-map : {X Y : Type 0} (p : Y → Bool) (f : X → Y) → ((x : X) → p (f x) ≡ true) → (xs : List X) → list_all p (map f xs) ≡ true
-list_all-map p f passes [] = refl
-list_all-map p f passes (x ∷ xs) = rw (passes x) (list_all-map p f passes xs)
-
--- functions that agree on what passes
-pub map-filter_agree : {X Y : Type 0} (p : X → Bool) (f g : X → Y) → ((x : X) → p x ≡ true → f x ≡ g x) → (xs : List X) → map f (filter p xs) ≡ map g (filter p xs)
-map-filter_agree p f g same [] = refl
-map-filter_agree p f g same (x ∷ xs) = elim (cases_Bool (p x)) [
-  | inl t ↦ rw (t, same x t, map-filter_agree p f g same xs) refl
-  | inr e ↦ rw e (map-filter_agree p f g same xs)
-]
-
 pub map-flat_map : {X A B : Type 0} (h : A → B) (f : X → List A) (xs : List X) → map h (flat_map f xs) ≡ flat_map (λ x. map h (f x)) xs
 map-flat_map h f [] = refl
 map-flat_map h f (x ∷ xs) = rw (map-append, map-flat_map h f xs) refl
@@ -220,18 +180,6 @@ map-flat_map h f (x ∷ xs) = rw (map-append, map-flat_map h f xs) refl
 pub flat_map-none : {X A : Type 0} (xs : List X) → flat_map {A = A} (λ x. []) xs ≡ []
 flat_map-none [] = refl
 flat_map-none (x ∷ xs) = flat_map-none xs
-
-pub flat_map-map_filter : {X A B : Type 0} (f : X → List A) (p : A → Bool) (h : A → B) (xs : List X) → flat_map (λ x. map h (filter p (f x))) xs ≡ map h (filter p (flat_map f xs))
-flat_map-map_filter f p h [] = refl
-flat_map-map_filter f p h (x ∷ xs) = rw (filter-append, map-append, flat_map-map_filter f p h xs) refl
-
--- where each element that passes gives one
-pub flat_map-filter_single : {X A : Type 0} (p : X → Bool) (f : X → List A) (g : X → A) → ((x : X) → p x ≡ true → f x ≡ g x ∷ []) → (xs : List X) → flat_map f (filter p xs) ≡ map g (filter p xs)
-flat_map-filter_single p f g single [] = refl
-flat_map-filter_single p f g single (x ∷ xs) = elim (cases_Bool (p x)) [
-  | inl t ↦ rw (t, single x t, flat_map-filter_single p f g single xs) refl
-  | inr e ↦ rw e (flat_map-filter_single p f g single xs)
-]
 
 -- ---- consecutive numbers
 

@@ -1,14 +1,13 @@
 -- Lists in order: cut in pieces by a key that does not fall, and put in order again.
-use Rattle.std.proofs.Common.{◌≡◌, ◌⊎◌, ℕ, zero, suc, ◌+◌, ◌*◌, ◌<◌, ◌≤◌, Bool, true, false, nat_eq, nat_lt, List, [], ◌∷◌, ◌++◌, map, refl, sym, ap, subst, inl, inr, zero-add, arith}
-use Rattle.std.specs.List.{filter, flat_map, range_with_len, AllByRecursion}
+use Rattle.std.proofs.Common.{◌≡◌, ◌⊎◌, ℕ, zero, suc, ◌+◌, ◌<◌, ◌≤◌, Bool, true, false, nat_eq, nat_lt, List, [], ◌∷◌, ◌++◌, refl, sym, ap, subst, inl, inr, zero-add, arith}
+use Rattle.std.specs.List.{filter, flat_map, AllByRecursion}
 use Rattle.std.specs.declared.cmp.Ordering.{Ordering}
 use Rattle.std.specs.Ordering.{is_gt, nat_cmp, ordering_then}
 use Rattle.std.proofs.lemmas.Bool.{lt-ltb, le-ltb, eq-eqb, ne_eqb, cases_lt, cases_order, cases_Bool}
 use Rattle.std.proofs.lemmas.List.{append-nil}
 use Rattle.std.proofs.lemmas.List.Concat.{flat_map-append}
-use Rattle.std.proofs.Math.Nat.{mul-le-mul_right}
-use Rattle.music_base.specs.Numbers.{below, put_in_order, in_order}
-use Rattle.music_base.proofs.Lists.{All-weaker, All-of, All-filter, All-map, All-range_with_len, filter-none, range_with_len-more}
+use Rattle.music_base.specs.Numbers.{below, put_in_order}
+use Rattle.music_base.proofs.Lists.{All-weaker, All-of, All-filter, filter-none, range_with_len-more}
 
 -- R holds of each element and each later one
 abbrev pub Pairwise : {X : Type 0} → (X → X → Type 0) → List X → Type 0
@@ -19,26 +18,9 @@ Pairwise R (x ∷ xs) = AllByRecursion (R x) xs × Pairwise R xs
 abbrev pub Ascending : {X : Type 0} → (X → ℕ) → List X → Type 0
 Ascending key xs = Pairwise (λ x y. key x ≤ key y) xs
 
-pub Pairwise-weaker : {X : Type 0} (R S : X → X → Type 0) → ((x y : X) → R x y → S x y) → (xs : List X) → Pairwise R xs → Pairwise S xs
-Pairwise-weaker R S f [] h = h
-Pairwise-weaker R S f (x ∷ xs) h = (All-weaker (R x) (S x) (f x) xs h.0, Pairwise-weaker R S f xs h.1)
-
 pub Pairwise-filter : {X : Type 0} (R : X → X → Type 0) (p : X → Bool) (xs : List X) → Pairwise R xs → Pairwise R (filter p xs)
 Pairwise-filter R p [] h = h
 Pairwise-filter R p (x ∷ xs) h = elim (cases_Bool (p x)) [ inl t ↦ rw t (All-filter (R x) p xs h.0, Pairwise-filter R p xs h.1) | inr e ↦ rw e (Pairwise-filter R p xs h.1) ]
-
-pub Pairwise-map : {X Y : Type 0} (R : Y → Y → Type 0) (f : X → Y) (xs : List X) → Pairwise (λ x y. R (f x) (f y)) xs → Pairwise R (map f xs)
-Pairwise-map R f [] h = h
-Pairwise-map R f (x ∷ xs) h = (All-map (R (f x)) f xs h.0, Pairwise-map R f xs h.1)
-
--- first, first + every, first + 2 * every and so on ascend
-pub progression-ascends : (first every a n : ℕ) → Pairwise (λ x y. x ≤ y) (map (λ i. first + i * every) (range_with_len a n))
-progression-ascends first every a zero = tt
-progression-ascends first every a (suc n) = (
-  All-map (λ y. first + a * every ≤ y) (λ i. first + i * every) (range_with_len (a + 1) n)
-      (All-range_with_len (λ i. first + a * every ≤ first + i * every) (a + 1) n (λ i low. let le : a ≤ i = omega arith in omega (arith, mul-le-mul_right every le))),
-  progression-ascends first every (a + 1) n,
-)
 
 -- ---- putting in order
 
@@ -55,11 +37,6 @@ not_after a b rest le tie = elim (cases_lt a b) [
 pub put_in_order-front : {X : Type 0} (cmp : X → X → Ordering) (x : X) (xs : List X) → AllByRecursion (λ y. is_gt (cmp x y) ≡ false) xs → put_in_order cmp x xs ≡ x ∷ xs
 put_in_order-front cmp x [] h = refl
 put_in_order-front cmp x (y ∷ ys) h = rw h.0 refl
-
--- a list that is in order stays as it is
-pub in_order-same : {X : Type 0} (cmp : X → X → Ordering) (xs : List X) → Pairwise (λ x y. is_gt (cmp x y) ≡ false) xs → in_order cmp xs ≡ xs
-in_order-same cmp [] h = refl
-in_order-same cmp (x ∷ xs) h = rw (in_order-same cmp xs h.1) (put_in_order-front cmp x xs h.0)
 
 -- ---- pieces
 

@@ -10,7 +10,6 @@ pub mod Finish
 pub mod LeastWalks
 pub mod Multiples
 pub mod OneLimits
-pub mod Places
 pub mod Rounds
 pub mod SceneWaits
 pub mod Searching
