@@ -1,4 +1,5 @@
 pub mod Acts
+pub mod ByRank
 pub mod Feeding
 pub mod Fitting
 pub mod FreshInboxes

@@ -1,3 +1,4 @@
+pub mod ByRank
 pub mod Machines
 pub mod Moves
 pub mod OwnLinks

@@ -5,6 +5,7 @@
 //! which all that it keeps and owes agrees.
 #![tactic(auto)]
 
+mod by_rank;
 mod inbox;
 mod machine;
 mod needs;
@@ -14,6 +15,7 @@ mod reading;
 mod rows;
 mod shaping;
 mod step;
+mod step_rows;
 mod taking;
 mod turned;
 

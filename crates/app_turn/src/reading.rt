@@ -59,14 +59,14 @@ fn items_of_values(
     ensures { (f : ℕ → ℤ) → values.now ≡ map f globals.now →
         IfOk result (λ items. items ≡ map (λ g. Value g (f g)) globals.now) }
 {
-    let mut items = Items::new(alloc);
+    let mut items = Vec::with_capacity(alloc, globals.len())?;
     for place in 0..globals.len() {
         items.push(Item::Value {
             global: globals[place],
             value: values[place],
         })?;
     }
-    Ok(items)
+    Ok(Items::from_vec(items))
 }
 
 /// A value for each index, as an inbox reads it.

@@ -1,20 +1,17 @@
-//! The rows of a step, made of what its inputs read.
-ghost use Rattle.std.specs.Prelude.{◌≡◌, ◌+◌, ◌*◌, ◌<◌, ◌≤◌, ◌++◌, ℕ, [], map, length, slice_index_or, IfOk, IfSome, OnOk};
+//! The rows of one rank of a port, made of what the port read.
+ghost use Rattle.std.specs.Prelude.{◌≡◌, ◌<◌, ◌≤◌, ◌++◌, map, IfOk, IfSome, OnOk};
 ghost use Rattle.std.specs.List.{flat_map};
 ghost use Rattle.std.specs.Option.{option_to_list};
 ghost use Rattle.index_maps.specs.Maps.{globals_of, rank_count};
-ghost use Rattle.scene_model.specs.Clocks.{clock};
-ghost use Rattle.scene_model.specs.Faults.{IsFaultless};
-ghost use Rattle.scene_model.specs.Logs.{arrived_at, read_at, step_rows_in};
-ghost use Rattle.scene_model.specs.Scenes.{app_at, port_at};
+ghost use Rattle.scene_model.specs.Logs.{arrived_at, read_at};
 ghost use Rattle.scene_model.specs.Tables.{value_in};
-ghost use Rattle.rule_turns.specs.Turning.{AreAscending, AreInputs, IsInput};
-ghost use Rattle.app_turn.specs.Rows.{port_rows_of, rank_rows_of, row_of};
+ghost use Rattle.rule_turns.specs.Turning.{AreAscending, IsInput};
+ghost use Rattle.app_turn.specs.Rows.{rank_rows_of, row_of};
 
 use index_maps::PortMap;
 use music_base::{AppId, Item, Items, Nanos, NoMemory, PortId, Rank, Sample, TryCopy};
 use rule_turns::value_at;
-use scene_model::{Direction, PortDecl, PortKind, Row, RowItem, Scene};
+use scene_model::{Direction, PortDecl, PortKind, Row, RowItem};
 use std::alloc::Global;
 
 /// Where and when something is read: at the clock of a step, in ns, by a rank of an input.
@@ -127,7 +124,7 @@ fn push_values(
 }
 
 /// What a rank of a port gets of an arrival.
-fn arrived(
+pub fn arrived(
     alloc: Global,
     ports: &PortMap,
     rank: Rank,
@@ -153,7 +150,7 @@ fn arrived(
     }
 }
 
-fn push_got(rows: &mut Items<Row>, place: &ReadAt, got: Option<RowItem>) -> Result<(), NoMemory>
+pub fn push_got(rows: &mut Items<Row>, place: &ReadAt, got: Option<RowItem>) -> Result<(), NoMemory>
     ensures { OnOk result (rows.new ≡ rows.old ++ map (row_of place.now) (option_to_list got)) }
 {
     match got {
@@ -181,7 +178,7 @@ fn push_arrivals(
 }
 
 /// Adds what a rank of a port gets.
-fn push_rank(
+pub fn push_rank(
     alloc: Global,
     rows: &mut Items<Row>,
     place: &ReadAt,
@@ -201,7 +198,7 @@ fn push_rank(
     }
 }
 
-fn rank_count(map: &PortMap) -> u32
+pub fn rank_count(map: &PortMap) -> u32
     requires { rank_count map.now ≤ 64 }
     ensures { result ≡ rank_count map.now }
 {
@@ -209,75 +206,4 @@ fn rank_count(map: &PortMap) -> u32
         PortMap::Each(maps) => maps.len() as u32,
         PortMap::Split { span: _, ranks } => *ranks,
     }
-}
-
-/// Adds what the ranks of a port get, rank by rank.
-fn push_port(
-    alloc: Global,
-    rows: &mut Items<Row>,
-    clock: Nanos,
-    app: AppId,
-    port: PortId,
-    decl: &PortDecl,
-    items: &[Item],
-) -> Result<(), NoMemory>
-    requires few { rank_count decl.now.map ≤ 64 }
-    requires shaped { IsInput decl.now.direction decl.now.kind decl.now items.now }
-    ensures { OnOk result (rows.new ≡ rows.old ++ port_rows_of decl.now clock app port items.now) }
-{
-    for rank in 0..rank_count(&decl.map) {
-        let place = ReadAt {
-            clock,
-            app,
-            port,
-            rank: Rank(rank),
-        };
-        push_rank(alloc, rows, &place, decl, items)?;
-    }
-    Ok(())
-}
-
-/// The clock of a step of an application, in ns.
-#[tactic(auto, unfolding(scene_model::specs::Clocks::start, scene_model::specs::Clocks::tick))]
-pub fn clock_of(scene: &Scene, app: AppId, step: u64) -> Nanos
-    requires faultless { IsFaultless scene.now }
-    requires app { app < length scene.now.apps }
-    requires step { step ≤ 1_000_000 }
-    ensures { result ≡ clock scene.now app step }
-{
-    let decl = scene.app(app);
-    Nanos(decl.start.0 + step * decl.tick.0)
-}
-
-/// The rows of a step whose ports read these items: port by port, and rank by rank.
-pub fn rows_of(
-    alloc: Global,
-    scene: &Scene,
-    app: AppId,
-    step: u64,
-    inputs: &[Items<Item>],
-) -> Result<Items<Row>, NoMemory>
-    requires faultless { IsFaultless scene.now }
-    requires app { app < length scene.now.apps }
-    requires step { step ≤ 1_000_000 }
-    requires counted { length inputs.now ≡ length (app_at scene.now app).ports }
-    requires shaped { AreInputs (app_at scene.now app).ports inputs.now }
-    ensures { IfOk result (λ rows. rows ≡ step_rows_in scene.now app step inputs.now) }
-{
-    let decl = scene.app(app);
-    let clock = clock_of(scene, app, step);
-    let mut rows = Items::new(alloc);
-    for port in 0..inputs.len() {
-        let id = PortId(port as u32);
-        push_port(
-            alloc,
-            &mut rows,
-            clock,
-            app,
-            id,
-            decl.port(id),
-            inputs[port].as_slice(),
-        )?;
-    }
-    Ok(rows)
 }

@@ -10,7 +10,7 @@ ghost use Rattle.app_turn.specs.Steps.{IsStep, block_for};
 
 use crate::PortInbox;
 use crate::reading::read_inputs;
-use crate::rows::rows_of;
+use crate::step_rows::rows_of;
 use music_base::{AppId, Block, Item, Items, LinkId, NoMemory, TryCopy};
 use rule_turns::{ScriptState, TurnPlan, outputs_by};
 use scene_model::{Row, Scene};

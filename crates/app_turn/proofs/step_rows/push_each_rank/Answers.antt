@@ -1,6 +1,6 @@
 use Rattle.app_turn.specs.Rows.{rank_rows_of}
 use Rattle.app_turn.proofs.RowParts.{flat_more}
-use Rattle.app_turn.proofs.rows.push_port.Goals as goal
+use Rattle.app_turn.proofs.step_rows.push_each_rank.Goals as goal
 
 pub loop-rank-preserved : goal.loop-rank-preserved
 loop-rank-preserved c =

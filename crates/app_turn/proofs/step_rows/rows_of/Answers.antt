@@ -9,7 +9,7 @@ use Rattle.scene_model.specs.declared.port.PortDecl.{PortDecl}
 use Rattle.scene_model.specs.declared.scene.AppDecl.{AppDecl}
 use Rattle.app_turn.specs.Rows.{port_rows_of}
 use Rattle.app_turn.proofs.RowParts.{all_rows, flat_more}
-use Rattle.app_turn.proofs.rows.rows_of.Goals as goal
+use Rattle.app_turn.proofs.step_rows.rows_of.Goals as goal
 
 pub push_port-requires-clause-shaped : goal.push_port-requires-clause-shaped
 push_port-requires-clause-shaped c =
