@@ -31,9 +31,9 @@ use Rattle.port_inbox.specs.Samples.{HoldsSamples, IsSampled, Samples, read}
 use Rattle.rule_turns.specs.Turning.{IsInput}
 use Rattle.rule_turns.specs.Plans.{value_indices}
 use Rattle.scene_model.proofs.ProperLives.{are_values}
-use Rattle.port_inbox.specs.declared.arrivals.Arrival.{Arrival}
 use Rattle.port_inbox.specs.declared.arrivals.Heard.{Heard}
-use Rattle.app_turn.specs.PortInboxes.{HoldsAt, IsPortInbox, event_of, message_of, only_link}
+use Rattle.app_turn.specs.PortInboxes.{HoldsAt, IsPortInbox, message_of, only_link}
+use Rattle.port_inbox.specs.Arrivals.{event_of}
 use Rattle.app_turn.specs.declared.inbox.PortInbox.{PortInbox}
 use Rattle.app_turn.specs.declared.inbox.PortInbox.TheVariants.{Silent, Unfed, Hears, Listens, Follows}
 
@@ -159,13 +159,13 @@ module _ (scene : Scene) (fine : IsFaultless scene) (b p j : ℕ) (x : PortInbox
       let at : IsPortInbox scene b p j Unfed = rw e at here in
       is ∙ ap (map (λ g. Value g (pos 0))) (indices_are at.1) ∙ reads_zeros scene fine table proper b p j at
 
-  pub hears_as : (inbox : Inbox) → x ≡ Hears inbox → HasWanted scene b p inbox j → (ys : List Arrival)
-      → ((table : Table) → IsFed scene b p inbox table j → ys ≡ heard scene table b p j) → (items : List Item) → items ≡ map event_of ys → Reads items
-  hears_as inbox e wants ys answers items is table proper holds =
+  pub hears_as : (inbox : Inbox) → x ≡ Hears inbox → HasWanted scene b p inbox j → (items : List Item)
+      → ((table : Table) → IsFed scene b p inbox table j → items ≡ map event_of (heard scene table b p j)) → Reads items
+  hears_as inbox e wants items answers table proper holds =
       let at : IsPortInbox scene b p j (Hears inbox) = rw e at here in
       let kept : HoldsFrom scene b p inbox.lines table j = rw e at holds in
       let r = reads_events scene fine table proper b p j inbox at wants kept in
-      is ∙ ap (map event_of) (answers table r.0) ∙ r.1
+      answers table r.0 ∙ r.1
 
   pub listens_as : (inbox : Inbox) → x ≡ Listens inbox → HasWanted scene b p inbox j → (ys : List Heard)
       → ((table : Table) → IsTold scene b p inbox table j → ys ≡ words_heard scene table b p j) → (items : List Item) → items ≡ map message_of ys → Reads items

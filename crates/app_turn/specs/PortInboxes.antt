@@ -4,7 +4,7 @@ use Rattle.std.specs.List.{AllByRecursion}
 use Rattle.music_base.specs.Numbers.{below}
 use Rattle.music_base.specs.Pairs.{AllPaired}
 use Rattle.music_base.specs.declared.item.Item.{Item}
-use Rattle.music_base.specs.declared.item.Item.TheVariants.{Event, Message}
+use Rattle.music_base.specs.declared.item.Item.TheVariants.{Message}
 use Rattle.music_base.specs.declared.item.Block.{Block}
 use Rattle.scene_model.specs.Clocks.{wanted}
 use Rattle.scene_model.specs.Due.{is_due_from}
@@ -19,7 +19,6 @@ use Rattle.port_inbox.specs.Due.{left_in}
 use Rattle.port_inbox.specs.Holding.{HasLinesOf, HasWanted, HoldsFrom, IsRoutesOf}
 use Rattle.port_inbox.specs.Inboxes.{Inbox, Line, line_at, moved_to, with_block, with_line}
 use Rattle.port_inbox.specs.Samples.{HoldsSamples, IsSamplesOf, Samples, with_sample}
-use Rattle.port_inbox.specs.declared.arrivals.Arrival.{Arrival}
 use Rattle.port_inbox.specs.declared.arrivals.Heard.{Heard}
 use Rattle.app_turn.specs.Machines.{KeepsOf}
 use Rattle.app_turn.specs.OwnLinks.{IsPlaceOf}
@@ -27,9 +26,6 @@ use Rattle.app_turn.specs.declared.inbox.PortInbox.{PortInbox}
 use Rattle.app_turn.specs.declared.inbox.PortInbox.TheVariants.{Silent, Unfed, Hears, Listens, Follows}
 
 -- ---- what an inbox answers, as items
-
-abbrev pub event_of : Arrival → Item
-event_of a = Event (record { time = a.time; global = a.global })
 
 abbrev pub message_of : Heard → Item
 message_of h = Message (record { time = h.time; word = h.word })

@@ -11,28 +11,14 @@ ghost use Rattle.scene_model.specs.Tables.{IsProper, Table};
 ghost use Rattle.port_inbox.specs.Samples.{read};
 ghost use Rattle.rule_turns.specs.Plans.{turn_plan, value_indices};
 ghost use Rattle.rule_turns.specs.Turning.{AreInputs, IsInput};
-ghost use Rattle.app_turn.specs.PortInboxes.{HoldsAt, IsPortInbox, IsSettled, WantedAt, event_of, inbox_at, message_of};
+ghost use Rattle.app_turn.specs.PortInboxes.{HoldsAt, IsPortInbox, IsSettled, WantedAt, inbox_at, message_of};
 
 use crate::PortInbox;
-use music_base::{AppId, Event, Item, Items, Message, NoMemory, PortId, Sample, TryCopy};
-use port_inbox::{Arrival, ContInbox, Heard};
+use music_base::{AppId, Item, Items, Message, NoMemory, PortId, Sample, TryCopy};
+use port_inbox::{ContInbox, Heard};
 use rule_turns::TurnPlan;
 use scene_model::Scene;
 use std::alloc::Global;
-
-/// Arrivals as items.
-fn items_of_arrivals(alloc: Global, arrivals: &[Arrival]) -> Result<Items<Item>, NoMemory>
-    ensures { IfOk result (λ items. items ≡ map event_of arrivals.now) }
-{
-    let mut items = Items::new(alloc);
-    for arrival in arrivals {
-        items.push(Item::Event(Event {
-            time: arrival.time,
-            global: arrival.global,
-        }))?;
-    }
-    Ok(items)
-}
 
 /// Words as items.
 fn items_of_words(alloc: Global, words: &[Heard]) -> Result<Items<Item>, NoMemory>
@@ -122,8 +108,9 @@ fn read_port(
         PortInbox::Silent => Ok(Items::new(alloc)),
         PortInbox::Unfed => values_of_nothing(alloc, globals),
         PortInbox::Hears(inbox) => {
-            let arrivals = inbox.deliver(alloc, step)?;
-            items_of_arrivals(alloc, &arrivals)
+            let mut events = Vec::new(alloc);
+            inbox.deliver_events(step, &mut events)?;
+            Ok(Items::from_vec(events))
         }
         PortInbox::Listens(inbox) => {
             let words = inbox.deliver(alloc, step)?;
@@ -156,7 +143,7 @@ pub fn read_inputs(
         all.items ≡ inputs scene.now table app step) }
     ensures shaped { IfOk result (λ all. AreInputs (app_at scene.now app).ports all.items) }
 {
-    let mut all = Vec::new(alloc);
+    let mut all = Vec::with_capacity(alloc, inboxes.len())?;
     for port in 0..inboxes.len() {
         let globals = plan.ports.as_slice()[port].indices.as_slice();
         let items = read_port(

@@ -15,6 +15,10 @@ use Rattle.port_inbox.specs.Inboxes.{Inbox, Line}
 use Rattle.port_inbox.specs.declared.arrivals.Arrival.{Arrival}
 use Rattle.port_inbox.specs.declared.arrivals.InboxLink.{InboxLink}
 
+-- an arrival as an item, without its targets
+abbrev pub event_of : Arrival → Item
+event_of a = Event (record { time = a.time; global = a.global })
+
 -- an arrival, with the places of the application and the port that sent it
 pub record Waiting : Type 0 where
   pub arrival : Arrival

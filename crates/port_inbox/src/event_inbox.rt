@@ -1,25 +1,27 @@
-ghost use Rattle.std.specs.Prelude.{◌≡◌, ℕ, ◌-◌, ◌^◌, ◌<◌, ◌≤◌, IfOk, OnOk, OnErr, length};
+ghost use Rattle.std.specs.Prelude.{◌≡◌, ℕ, ◌-◌, ◌^◌, ◌<◌, ◌≤◌, IfOk, OnOk, OnErr, length, map};
 ghost use Rattle.std.specs.List.{AllByRecursion};
 ghost use Rattle.scene_model.specs.Tables.{Table};
 ghost use Rattle.scene_model.specs.declared.scene.Scene.{Scene};
-ghost use Rattle.port_inbox.specs.Arrivals.{delivered};
+ghost use Rattle.port_inbox.specs.Arrivals.{delivered, event_of};
 ghost use Rattle.port_inbox.specs.Due.{AreShort};
 ghost use Rattle.port_inbox.specs.Holding.{IsFed, heard};
 ghost use Rattle.port_inbox.specs.Inboxes.{fresh_inbox, line_at, moved_to, with_block, with_line};
 ghost use Rattle.port_inbox.specs.declared.arrivals.InboxLink.{InboxLink};
 
+use crate::finding::Found;
 use crate::lines::Lines;
 use crate::{Arrival, InboxLink, finding};
 use event_routes::Routes;
-use music_base::{Block, Nanos, NoMemory};
+use music_base::{Block, Item, Nanos, NoMemory};
 use std::alloc::Global;
 use std::marker::Model;
 
-/// The inbox of an input for events.
+/// The inbox of an input for events. It keeps a list for what a delivery finds, which contracts don't see.
 #[derive(Debug, Drop)]
 pub struct EventInbox {
     lines: Lines,
     routes: Vec<Routes>,
+    found: Vec<Found>,
 }
 
 impl Model for EventInbox {
@@ -54,7 +56,12 @@ impl EventInbox {
         ensures { IfOk result (λ inbox. inbox ≡ fresh_inbox links.items routes.items start tick) }
     {
         let lines = Lines::make(alloc, &links, start, tick)?;
-        Ok(EventInbox { lines, routes })
+        let found = Vec::new(alloc);
+        Ok(EventInbox {
+            lines,
+            routes,
+            found,
+        })
     }
 
     /// How many connections the inbox has.
@@ -140,8 +147,23 @@ impl EventInbox {
         ensures ok { OnOk result (self.new ≡ moved_to step self.old) }
         ensures err { OnErr result (self.new ≡ self.old) }
     {
-        let arrivals = finding::deliver(alloc, &self.lines, &self.routes, step)?;
+        let arrivals = finding::deliver(alloc, &self.lines, &self.routes, step, &mut self.found)?;
         self.lines.move_to(step);
         Ok(arrivals)
+    }
+
+    /// Fills a list with what `deliver` answers, as items: the time and the index of each event, and no targets. What the list
+    /// had goes, and its memory stays. The inbox moves on as by `deliver`.
+    pub fn deliver_events(&mut self, step: u64, events: &mut Vec<Item>) -> Result<(), NoMemory>
+        requires { self.old.delivered ≤ step }
+        ensures answer { OnOk result (events.new.items ≡ map event_of (delivered step self.old)) }
+        ensures heard { (scene : Scene) (b p : ℕ) (table : Table) →
+            IsFed scene b p self.old table step → OnOk result (events.new.items ≡ map event_of (heard scene table b p step)) }
+        ensures ok { OnOk result (self.new ≡ moved_to step self.old) }
+        ensures err { OnErr result (self.new ≡ self.old) }
+    {
+        finding::deliver_events(&self.lines, &self.routes, step, &mut self.found, events)?;
+        self.lines.move_to(step);
+        Ok(())
     }
 }

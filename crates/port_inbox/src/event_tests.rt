@@ -256,7 +256,34 @@ fn delivers(
     Ok(are(&arrivals, expected))
 }
 
-/// Whether each step of a case delivers what stands there, and a second time the same.
+fn are_events(items: &[Item], expected: &[(u64, u32)]) -> bool {
+    let mut same = items.len() == expected.len();
+    for (item, (time, global)) in items.iter().zip(expected) {
+        let here =
+            matches!(item, Item::Event(event) if event.time.0 == *time && event.global == *global);
+        same = same && here;
+    }
+    same
+}
+
+/// Whether these are what the step delivers as items, also into a list that has them already.
+fn delivers_events(
+    alloc: Global,
+    inbox: &mut EventInbox,
+    step: u64,
+    expected: &[(u64, u32)],
+) -> Result<bool, NoMemory> {
+    if step < inbox.delivered() {
+        return Ok(false);
+    }
+    let mut items = Vec::new(alloc);
+    inbox.deliver_events(step, &mut items)?;
+    let first = are_events(&items, expected);
+    inbox.deliver_events(step, &mut items)?;
+    Ok(first && are_events(&items, expected))
+}
+
+/// Whether each step of a case delivers what stands there, and a second time the same, as items too.
 fn is_right(alloc: Global, case: &Case) -> Result<bool, NoMemory> {
     let Some(mut inbox) = fed(alloc, case.start, case.tick, case.came)? else {
         return Ok(false);
@@ -265,6 +292,7 @@ fn is_right(alloc: Global, case: &Case) -> Result<bool, NoMemory> {
     for (step, expected) in case.delivered.iter().enumerate() {
         right = delivers(alloc, &mut inbox, step as u64, expected)? && right;
         right = delivers(alloc, &mut inbox, step as u64, expected)? && right;
+        right = delivers_events(alloc, &mut inbox, step as u64, expected)? && right;
     }
     Ok(right)
 }

@@ -1,10 +1,10 @@
 //! The events that are due in a step: found, put in order, and given their targets.
-ghost use Rattle.std.specs.Prelude.{◌≡◌, ◌++◌, [], ◌≤◌, List, IfOk, OnOk, length, slice_index_or};
+ghost use Rattle.std.specs.Prelude.{◌≡◌, ◌++◌, [], ◌≤◌, List, IfOk, OnOk, length, map, option_map, slice_index_or};
 ghost use Rattle.std.specs.Bool.{OnTrue};
 ghost use Rattle.std.specs.List.{filter_map, flat_map};
 ghost use Rattle.music_base.specs.Numbers.{in_order};
 ghost use Rattle.event_routes.specs.Routing.{Route, routed};
-ghost use Rattle.port_inbox.specs.Arrivals.{delivered, line_waiting, paired};
+ghost use Rattle.port_inbox.specs.Arrivals.{delivered, event_of, line_waiting, paired};
 ghost use Rattle.port_inbox.specs.Due.{falls_in};
 ghost use Rattle.port_inbox.specs.Gathering.{arrival_found, blocks_found, found, found_cmp, is_in, waiting_found};
 
@@ -13,7 +13,7 @@ use crate::lines::Lines;
 use crate::window::{Window, window_of};
 use crate::{Arrival, InboxLink};
 use event_routes::{Routes, Target};
-use music_base::{AppId, Item, Items, Nanos, NoMemory, PortId};
+use music_base::{AppId, Event, Item, Items, Nanos, NoMemory, PortId};
 use std::alloc::{AllocError, Global};
 use std::cmp::Ordering;
 
@@ -177,25 +177,70 @@ fn arrivals(alloc: Global, found: &[Found], routes: &[Routes]) -> Result<Vec<Arr
     Ok(arrivals)
 }
 
-/// What is due in a step over these connections, in order.
-#[tactic(auto, unfolding(crate::specs::Arrivals::delivered))]
+/// The event that was found, where its index has targets.
+fn event_found(found: &Found, routes: &[Routes]) -> Option<Item>
+    ensures { result ≡ option_map event_of (arrival_found routes.now found.now) }
+{
+    if targets_at(routes, found.line, found.global).is_empty() {
+        return None;
+    }
+    Some(Item::Event(Event {
+        time: found.time,
+        global: found.global,
+    }))
+}
+
+/// Appends the events that have targets.
+fn push_events(found: &[Found], routes: &[Routes], events: &mut Vec<Item>) -> Result<(), NoMemory>
+    ensures { OnOk result (events.new.items ≡ events.old.items ++ map event_of (filter_map (arrival_found routes.now) found.now)) }
+{
+    for event in found {
+        if let Some(item) = event_found(event, routes) {
+            events.push(item)?;
+        }
+    }
+    Ok(())
+}
+
+/// Fills the list with the events that are due in a step over these connections, in order. No targets are looked up.
+fn find(lines: &Lines, step: u64, found: &mut Vec<Found>) -> Result<(), NoMemory>
+    ensures { (routes : List (List Route)) → length lines.now.lines ≡ length routes →
+        OnOk result (filter_map (arrival_found routes) found.new.items ≡ delivered step (record lines.now { routes = routes })) }
+{
+    found.clear();
+    gather(lines.as_slice(), lines.start(), lines.tick(), step, found)?;
+    put_in_order(found)?;
+    Ok(())
+}
+
+/// What is due in a step over these connections, in order. The list `found` is filled on the way.
 pub fn deliver(
     alloc: Global,
     lines: &Lines,
     routes: &[Routes],
     step: u64,
+    found: &mut Vec<Found>,
 ) -> Result<Vec<Arrival>, NoMemory>
     requires { length lines.now.lines ≡ length routes.now }
     ensures { IfOk result (λ arrivals. arrivals.items ≡ delivered step (record lines.now { routes = routes.now })) }
 {
-    let mut found = Vec::new(alloc);
-    gather(
-        lines.as_slice(),
-        lines.start(),
-        lines.tick(),
-        step,
-        &mut found,
-    )?;
-    put_in_order(&mut found)?;
-    arrivals(alloc, &found, routes)
+    find(lines, step, found)?;
+    arrivals(alloc, found, routes)
+}
+
+/// Fills a list with the same as items, which have no targets.
+pub fn deliver_events(
+    lines: &Lines,
+    routes: &[Routes],
+    step: u64,
+    found: &mut Vec<Found>,
+    events: &mut Vec<Item>,
+) -> Result<(), NoMemory>
+    requires { length lines.now.lines ≡ length routes.now }
+    ensures { OnOk result (events.new.items ≡ map event_of (delivered step (record lines.now { routes = routes.now }))) }
+{
+    find(lines, step, found)?;
+    events.clear();
+    push_events(found, routes, events)?;
+    Ok(())
 }
