@@ -31,6 +31,10 @@ moment_of scene a j items = record {
   inputs = items;
 }
 
+-- the output at which the connection at a place of a list begins
+abbrev pub begins_at : Scene → List ℕ → ℕ → ℕ
+begins_at scene out i = (link_at scene (slice_index out i)).from_port
+
 -- the block of step j for connection c, of which so many blocks are wanted
 abbrev pub block_for : Scene → ℕ → StepOutput → ℕ → ℕ → Option Block
 block_for scene j outputs most c =

@@ -5,8 +5,10 @@
 //! which all that it keeps and owes agrees.
 #![tactic(auto)]
 
+mod blocks;
 mod by_rank;
 mod inbox;
+mod kept_lists;
 mod machine;
 mod needs;
 mod opening;

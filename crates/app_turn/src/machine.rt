@@ -11,10 +11,11 @@ ghost use Rattle.app_turn.specs.PortInboxes.{IsFresh, IsPortInbox, inbox_at};
 ghost use Rattle.app_turn.specs.Machines.{HasFinished, IsNext, IsPending, WantsPut, WantsRun, WantsTake};
 ghost use Rattle.app_turn.specs.Moves.{DidPut, DidTake, IsStarted, Ran};
 
+use crate::blocks::owe;
 use crate::needs::need;
 use crate::opening::{inboxes_of, most_wanted, no_blocks, places_of, zeros};
 use crate::own_links::{all_put, all_taken, links_into, links_out_of, receives, sends};
-use crate::step::{make_step, owe};
+use crate::step::{Step, make_step};
 use crate::step_rows::clock_of;
 use crate::taking::{admit, make_room};
 use crate::{PortInbox, Turned};
@@ -24,6 +25,7 @@ use rule_turns::{ScriptState, TurnPlan};
 use scene_model::{Row, Scene};
 use std::alloc::Global;
 use std::marker::Model;
+use std::mem::replace;
 use std::sync::Arc;
 
 /// One application of a scene, which runs its steps and keeps what it took and has to put.
@@ -48,6 +50,7 @@ pub struct AppMachine {
     state: ScriptState,
     inboxes: Vec<PortInbox>,
     pending: Vec<Option<Block>>,
+    made: Step,
 }
 
 impl Model for AppMachine {
@@ -139,6 +142,7 @@ impl AppMachine {
             state,
             inboxes,
             pending,
+            made: Step::new(alloc),
         })
     }
 }
@@ -251,7 +255,7 @@ impl AppMachine {
         requires { WantsRun self.old }
         ensures { MatchResult result (λ rows. Ran self.old self.new rows) (λ _. self.new ≡ self.old) }
     {
-        let step = make_step(
+        make_step(
             alloc,
             &*self.scene,
             self.app,
@@ -261,12 +265,13 @@ impl AppMachine {
             &self.out,
             &self.state,
             &mut self.inboxes,
+            &mut self.made,
         )?;
         let rules = self.scene.app(self.app).rules.as_slice();
-        self.state.move_on(&self.plan, rules, &step.inputs);
+        self.state.move_on(&self.plan, rules, &self.made.inputs);
         need(&*self.scene, &self.into, self.ran + 1, &mut self.needs);
-        owe(&self.out, step.blocks, &mut self.pending);
+        owe(&self.out, &mut self.made.blocks, &mut self.pending);
         self.ran += 1;
-        Ok(step.rows)
+        Ok(replace(&mut self.made.rows, Items::new(alloc)))
     }
 }

@@ -1,5 +1,5 @@
 //! What the inputs of an application read in a step.
-ghost use Rattle.std.specs.Prelude.{◌≡◌, ◌<◌, ◌≤◌, ◌^◌, ℕ, ℤ, pos, IfOk, length, slice_index_or, map};
+ghost use Rattle.std.specs.Prelude.{◌≡◌, ◌<◌, ◌≤◌, ◌^◌, ℕ, ℤ, pos, IfOk, OnOk, length, slice_index_or, map};
 ghost use Rattle.std.specs.List.{AllByRecursion};
 ghost use Rattle.music_base.specs.declared.item.Item.{Item};
 ghost use Rattle.music_base.specs.declared.item.Item.TheVariants.{Value};
@@ -14,6 +14,7 @@ ghost use Rattle.rule_turns.specs.Turning.{AreInputs, IsInput};
 ghost use Rattle.app_turn.specs.PortInboxes.{HoldsAt, IsPortInbox, IsSettled, WantedAt, inbox_at, message_of};
 
 use crate::PortInbox;
+use crate::kept_lists::{list_at, put_at};
 use music_base::{AppId, Item, Items, Message, NoMemory, PortId, Sample, TryCopy};
 use port_inbox::{ContInbox, Heard};
 use rule_turns::TurnPlan;
@@ -84,7 +85,7 @@ fn values_of_nothing(alloc: Global, globals: &[u32]) -> Result<Items<Item>, NoMe
     Ok(items)
 }
 
-/// What an input reads in a step, and nothing for an output.
+/// What an input reads in a step, and nothing for an output. Events are read into the list, in place of what it has.
 fn read_port(
     alloc: Global,
     scene: &Scene,
@@ -93,6 +94,7 @@ fn read_port(
     step: u64,
     globals: &[u32],
     inbox: &mut PortInbox,
+    list: Vec<Item>,
 ) -> Result<Items<Item>, NoMemory>
     requires faultless { IsFaultless scene.now }
     requires step { step ≤ 1_000_000 }
@@ -108,7 +110,7 @@ fn read_port(
         PortInbox::Silent => Ok(Items::new(alloc)),
         PortInbox::Unfed => values_of_nothing(alloc, globals),
         PortInbox::Hears(inbox) => {
-            let mut events = Vec::new(alloc);
+            let mut events = list;
             inbox.deliver_events(step, &mut events)?;
             Ok(Items::from_vec(events))
         }
@@ -120,7 +122,7 @@ fn read_port(
     }
 }
 
-/// What all inputs of an application read in a step.
+/// Fills a list with what all inputs of an application read in a step. The memory of its lists stays.
 pub fn read_inputs(
     alloc: Global,
     scene: &Scene,
@@ -128,7 +130,8 @@ pub fn read_inputs(
     step: u64,
     plan: &TurnPlan,
     inboxes: &mut Vec<PortInbox>,
-) -> Result<Vec<Items<Item>>, NoMemory>
+    all: &mut Vec<Items<Item>>,
+) -> Result<(), NoMemory>
     requires faultless { IsFaultless scene.now }
     requires step { step ≤ 1_000_000 }
     requires counted { length inboxes.old.items ≡ length (app_at scene.now app).ports }
@@ -138,14 +141,14 @@ pub fn read_inputs(
     requires wanted { (p : ℕ) → p < length inboxes.old.items → WantedAt scene.now app p step (inbox_at inboxes.old.items p) }
     ensures counted { length inboxes.new.items ≡ length inboxes.old.items }
     ensures settled { (p : ℕ) → p < length inboxes.old.items → IsSettled step (inbox_at inboxes.old.items p) (inbox_at inboxes.new.items p) }
-    ensures reads { IfOk result (λ all. (table : Table) → IsProper scene.now table →
+    ensures reads { OnOk result ((table : Table) → IsProper scene.now table →
         ((p : ℕ) → p < length inboxes.old.items → HoldsAt scene.now app p step (inbox_at inboxes.old.items p) table) →
-        all.items ≡ inputs scene.now table app step) }
-    ensures shaped { IfOk result (λ all. AreInputs (app_at scene.now app).ports all.items) }
+        all.new.items ≡ inputs scene.now table app step) }
+    ensures shaped { OnOk result (AreInputs (app_at scene.now app).ports all.new.items) }
 {
-    let mut all = Vec::with_capacity(alloc, inboxes.len())?;
     for port in 0..inboxes.len() {
         let globals = plan.ports.as_slice()[port].indices.as_slice();
+        let list = list_at(alloc, all, port);
         let items = read_port(
             alloc,
             scene,
@@ -154,8 +157,10 @@ pub fn read_inputs(
             step,
             globals,
             &mut inboxes[port],
+            list,
         )?;
-        all.push(items)?;
+        put_at(all, port, items)?;
     }
-    Ok(all)
+    all.truncate(inboxes.len());
+    Ok(())
 }

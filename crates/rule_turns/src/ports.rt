@@ -151,21 +151,22 @@ fn port_items(
     }
 }
 
-/// The items of all ports.
+/// Fills a list with the items of all ports.
 pub fn step_outputs(
     alloc: Global,
     step: &StepView<'_>,
     ports: &[PortDecl],
     plans: &[PortUses],
-) -> Result<Items<Items<Item>>, NoMemory>
+    outputs: &mut Vec<Items<Item>>,
+) -> Result<(), NoMemory>
     requires step { IsStep (seen step.now) }
     requires each { length plans.now ≡ length ports.now }
     requires planned { (p : ℕ) → p < length ports.now → IsPlanned step.now.rules.now step.now.inputs.now (slice_index_or ports.now p no_port) (slice_index_or plans.now p no_uses) }
-    ensures { IfOk result (λ outputs. outputs ≡ by_plan (seen step.now) ports.now plans.now) }
+    ensures { OnOk result (outputs.new.items ≡ by_plan (seen step.now) ports.now plans.now) }
 {
-    let mut outputs = Vec::with_capacity(alloc, ports.len())?;
+    outputs.clear();
     for p in 0..ports.len() {
         outputs.push(port_items(alloc, step, &ports[p], &plans[p])?)?;
     }
-    Ok(Items::from_vec(outputs))
+    Ok(())
 }

@@ -36,6 +36,44 @@ pub fn outputs_by(
     requires state { length state.now ≡ length (opening rules.now) }
     ensures { IfOk result (λ outputs. outputs ≡ turn rules.now state.now (record { ports = ports.now; start = start; tick = tick; step = step; inputs = inputs.now })) }
 {
+    let mut outputs = Vec::new(alloc);
+    fill_outputs(
+        alloc,
+        plan,
+        rules,
+        ports,
+        start,
+        tick,
+        state,
+        step,
+        inputs,
+        &mut outputs,
+    )?;
+    Ok(Items::from_vec(outputs))
+}
+
+/// Fills a list with what `outputs_by` answers. What the list had goes, and its memory stays.
+pub fn fill_outputs(
+    alloc: Global,
+    plan: &TurnPlan,
+    rules: &[Rule],
+    ports: &[PortDecl],
+    start: Nanos,
+    tick: Nanos,
+    state: &ScriptState,
+    step: u64,
+    inputs: &[Items<Item>],
+    outputs: &mut Vec<Items<Item>>,
+) -> Result<(), NoMemory>
+    requires can { CanTurn ports.now tick rules.now }
+    requires planned { plan.now ≡ turn_plan ports.now rules.now }
+    requires inputs { AreInputs ports.now inputs.now }
+    requires start { start ≤ 10 ^ 15 }
+    requires tick { tick ≤ 10 ^ 12 }
+    requires step { step < 10 ^ 6 }
+    requires state { length state.now ≡ length (opening rules.now) }
+    ensures { OnOk result (outputs.new.items ≡ turn rules.now state.now (record { ports = ports.now; start = start; tick = tick; step = step; inputs = inputs.now })) }
+{
     let from = start.0 + step * tick.0;
     let view = StepView {
         rules,
@@ -45,7 +83,7 @@ pub fn outputs_by(
         from,
         to: from + tick.0,
     };
-    step_outputs(alloc, &view, ports, plan.ports.as_slice())
+    step_outputs(alloc, &view, ports, plan.ports.as_slice(), outputs)
 }
 
 /// What the rules of an application put out in a step, as `outputs_by` answers it, and the state after the step. Where

@@ -1,4 +1,4 @@
-use Rattle.std.proofs.Common.{◌≡◌, ◌<◌, ◌≤◌, ℕ, length, map}
+use Rattle.std.proofs.Common.{◌≡◌, ◌<◌, ◌≤◌, ℕ, length, map, take}
 use Rattle.scene_model.specs.Lives.{input_by}
 use Rattle.scene_model.specs.Scenes.{port_at}
 use Rattle.scene_model.specs.Tables.{IsProper, Table}
@@ -13,8 +13,8 @@ invariant-loop-port l = record {
   counted : length l.inboxes.items ≡ length l.initial.inboxes.items;
   settled : (p : ℕ) → p < l.port → IsSettled l.step (inbox_at l.initial.inboxes.items p) (inbox_at l.inboxes.items p);
   rest : (p : ℕ) → l.port ≤ p → inbox_at l.inboxes.items p ≡ inbox_at l.initial.inboxes.items p;
-  all_count : length l.all.items ≡ l.port;
-  shaped : (p : ℕ) → p < l.port → IsInput (port_at l.scene l.app p).direction (port_at l.scene l.app p).kind (port_at l.scene l.app p) (slice_index_or l.all.items p []);
+  all_count : l.port ≤ length l.all.items;
+  shaped : (p : ℕ) → p < l.port → IsInput (port_at l.scene l.app p).direction (port_at l.scene l.app p).kind (port_at l.scene l.app p) (slice_index_or (take l.port l.all.items) p []);
   reads : (table : Table) → IsProper l.scene table → ((p : ℕ) → p < length l.initial.inboxes.items → HoldsAt l.scene l.app p l.step (inbox_at l.initial.inboxes.items p) table)
-      → l.all.items ≡ map (λ p. input_by (port_at l.scene l.app p).direction (port_at l.scene l.app p).kind l.scene table l.app l.step p) (below l.port);
+      → take l.port l.all.items ≡ map (λ p. input_by (port_at l.scene l.app p).direction (port_at l.scene l.app p).kind l.scene table l.app l.step p) (below l.port);
 }

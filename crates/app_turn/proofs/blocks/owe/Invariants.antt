@@ -1,7 +1,7 @@
 use Rattle.std.proofs.Common.{◌≡◌, ◌<◌, ◌≤◌, ℕ, length, map, None, Option}
 use Rattle.std.specs.Prelude.{slice_index, slice_index_or}
 use Rattle.music_base.specs.declared.item.Block.{Block}
-use Rattle.app_turn.proofs.step.owe.Given as goal
+use Rattle.app_turn.proofs.blocks.owe.Given as goal
 
 abbrev pub invariant-loop-place : goal.invariant-loop-place
 invariant-loop-place l = record {

@@ -1,6 +1,5 @@
 use Rattle.std.proofs.Common.{ℕ, ◌≡◌, ◌+◌, ◌*◌, ◌^◌, ◌≤◌, Bool, List, length, map, subst, ◌∙◌, ap, sym}
-use Rattle.std.specs.Result.{IfOk}
-use Rattle.std.specs.Prelude.{slice_index_or}
+use Rattle.std.specs.Prelude.{OnOk, slice_index_or}
 use Rattle.std.proofs.lemmas.List.{length-map}
 use Rattle.scene_model.specs.Scenes.{no_port}
 use Rattle.scene_model.specs.Tables.{StepOutput}
@@ -12,7 +11,7 @@ use Rattle.rule_turns.specs.Turning.{IsPlanned, by_plan, no_uses, step_in}
 use Rattle.rule_turns.proofs.Conditions.{clock_early, numbers_of}
 use Rattle.rule_turns.proofs.Placing.{planned_ports}
 use Rattle.rule_turns.proofs.PlanTurns.{plan_turns}
-use Rattle.rule_turns.proofs.turns.outputs_by.Goals as goal
+use Rattle.rule_turns.proofs.turns.fill_outputs.Goals as goal
 
 pub step_outputs-requires-clause-step : goal.step_outputs-requires-clause-step
 step_outputs-requires-clause-step c = record {
@@ -41,8 +40,8 @@ returns c =
     let ports = c.args.ports.now in
     let inputs = c.args.inputs.now in
     let step = c.args.step in
-    let P : ℕ → ℕ → List Bool → List PortUses → Type 0 = λ s t state plans. IfOk c.step_outputs.result (λ outputs.
-    outputs ≡ by_plan (record { rules = rules; state = state; inputs = inputs; number = step; from = s + step * t; to = s + step * t + t }) ports plans) in
+    let P : ℕ → ℕ → List Bool → List PortUses → Type 0 = λ s t state plans. OnOk c.step_outputs.result
+    (c.step_outputs.new.outputs.items ≡ by_plan (record { rules = rules; state = state; inputs = inputs; number = step; from = s + step * t; to = s + step * t + t }) ports plans) in
     let m : Moment = record { ports = ports; start = c.args.start; tick = c.args.tick; step = step; inputs = inputs } in
     let plans : c.as_slice-2.result.now ≡ (turn_plan ports rules).ports = c.as_slice-2.ensures ∙ ap (λ (plan : TurnPlan). plan.ports) c.requires.planned in
     let by_start : P c.args.start c.tick.inside.0 c.as_slice.result.now c.as_slice-2.result.now =
@@ -53,4 +52,4 @@ returns c =
     subst (λ (state : List Bool). P c.args.start c.args.tick state c.as_slice-2.result.now) c.as_slice.ensures by_tick in
     let by_plans : P c.args.start c.args.tick c.args.state.now (turn_plan ports rules).ports =
     subst (P c.args.start c.args.tick c.args.state.now) plans by_state in
-    subst (λ (out : StepOutput). IfOk c.step_outputs.result (λ outputs. outputs ≡ out)) (plan_turns rules c.args.state.now m c.requires.inputs c.requires.can) by_plans
+    subst (λ (out : StepOutput). OnOk c.step_outputs.result (c.step_outputs.new.outputs.items ≡ out)) (plan_turns rules c.args.state.now m c.requires.inputs c.requires.can) by_plans
