@@ -1,5 +1,5 @@
 -- Rows of a step, rank by rank and port by port.
-use Rattle.std.proofs.Common.{ℕ, zero, suc, ◌+◌, ◌<◌, ◌≡◌, sym, ◌∙◌, ap, arith, List, [], ◌∷◌, ◌++◌, length, map, append_assoc, get_or, Option, Some, None, true}
+use Rattle.std.proofs.Common.{ℕ, zero, suc, ◌+◌, ◌<◌, ◌≡◌, refl, sym, ◌∙◌, ap, arith, List, [], ◌∷◌, ◌++◌, length, map, append_assoc, get_or, Option, Some, None, true}
 use Rattle.std.specs.Prelude.{◌==◌, nat_lt, slice_get, slice_index_or}
 use Rattle.std.specs.List.{flat_map, list_all, position}
 use Rattle.std.specs.Option.{option_to_list}
@@ -10,15 +10,23 @@ use Rattle.std.proofs.lemmas.List.FromFn.{map-range_with_len_more}
 use Rattle.music_base.specs.Numbers.{all_differ, below}
 use Rattle.music_base.proofs.Lists.{range_with_len-more}
 use Rattle.index_maps.specs.Indices.{are_indices}
+use Rattle.index_maps.specs.Maps.{globals_of, rank_count}
 use Rattle.index_maps.specs.declared.span.TheConstants.{INDEX_LIMIT}
 use Rattle.index_maps.proofs.Positions.{place_or_none}
 use Rattle.scene_model.specs.Clocks.{clock}
-use Rattle.scene_model.specs.Logs.{places_of, step_rows_in}
+use Rattle.scene_model.specs.Logs.{places_of, rank_items_in, step_rows_in}
 use Rattle.scene_model.specs.Scenes.{app_at, port_at}
 use Rattle.scene_model.specs.Tables.{StepOutput}
+use Rattle.music_base.specs.declared.item.Item.{Item}
+use Rattle.scene_model.specs.declared.port.Direction.{Direction}
+use Rattle.scene_model.specs.declared.port.Direction.TheVariants.{Input, Output}
+use Rattle.scene_model.specs.declared.port.PortDecl.{PortDecl}
+use Rattle.scene_model.specs.declared.port.PortKind.{PortKind}
+use Rattle.scene_model.specs.declared.port.PortKind.TheVariants.{Events, Messages, Values}
 use Rattle.scene_model.specs.declared.row.RowItem.TheVariants.{Event as EventRow}
 use Rattle.scene_model.specs.declared.scene.Scene.{Scene}
-use Rattle.app_turn.specs.Rows.{port_rows_of}
+use Rattle.app_turn.specs.Rows.{HasNoRows, port_rows_of, rank_rows_of, row_of}
+use Rattle.app_turn.specs.declared.rows.ReadAt.{ReadAt}
 
 at_end : (n : ℕ) → 0 + n ≡ n
 at_end n = omega arith
@@ -59,3 +67,22 @@ all_rows scene app j clocks inputs is = ap (λ t. flat_map (λ p. port_rows_of (
 
 pub differ : (globals : List ℕ) → are_indices globals ≡ true → all_differ ◌==◌ globals ≡ true
 differ globals are = (and_parts (list_all (λ i. nat_lt i INDEX_LIMIT) globals) (all_differ ◌==◌ globals) are).1
+
+-- ---- no rows
+
+nothing : {X : Type 0} (f : ℕ → List X) (ranks : List ℕ) → ((r : ℕ) → f r ≡ []) → flat_map f ranks ≡ []
+nothing f [] none = refl
+nothing f (r ∷ ranks) none = rw (none r, nothing f ranks none) refl
+
+nothing_in : (d : Direction) (k : PortKind) (globals : List ℕ) → (d ≡ Input → k ≡ Values → ⊥) → rank_items_in d k globals [] ≡ []
+nothing_in Output k globals other = refl
+nothing_in Input Events globals other = refl
+nothing_in Input Messages globals other = refl
+nothing_in Input Values globals other = absurd (other refl refl)
+
+-- where nothing came no rank has a row, but of values
+pub no_rows : (decl : PortDecl) (clock app port : ℕ) (items : List Item) → HasNoRows decl items → port_rows_of decl clock app port items ≡ []
+no_rows decl clock app port [] h =
+    nothing (λ r. rank_rows_of decl (record { clock = clock; app = app; port = port; rank = r }) []) (below (rank_count decl.map))
+    (λ r. ap (map (row_of (record { clock = clock; app = app; port = port; rank = r }))) (nothing_in decl.direction decl.kind (globals_of decl.map r) h.1))
+no_rows decl clock app port (item ∷ items) h = absurd (omega (arith, h.0))

@@ -1,12 +1,14 @@
 -- Rows of what a rank read in a step.
-use Rattle.std.specs.Prelude.{ℕ, ℤ, List, map, slice_index}
+use Rattle.std.specs.Prelude.{ℕ, ℤ, ◌≡◌, List, length, map, slice_index}
 use Rattle.std.specs.List.{flat_map}
 use Rattle.index_maps.specs.Maps.{globals_of}
 use Rattle.music_base.specs.declared.item.Item.{Item}
 use Rattle.music_base.specs.Numbers.{below}
 use Rattle.index_maps.specs.Maps.{rank_count}
 use Rattle.scene_model.specs.Logs.{arrived_at, rank_items_in}
+use Rattle.scene_model.specs.declared.port.Direction.TheVariants.{Input}
 use Rattle.scene_model.specs.declared.port.PortDecl.{PortDecl}
+use Rattle.scene_model.specs.declared.port.PortKind.TheVariants.{Values}
 use Rattle.scene_model.specs.declared.row.Row.{Row}
 use Rattle.scene_model.specs.declared.row.RowItem.{RowItem}
 use Rattle.scene_model.specs.declared.row.RowItem.TheVariants.{Value as ValueRow}
@@ -23,6 +25,10 @@ rank_rows_of decl place items = map (row_of place) (rank_items_in decl.direction
 -- the rows of all its ranks
 abbrev pub port_rows_of : PortDecl → ℕ → ℕ → ℕ → List Item → List Row
 port_rows_of decl clock app port items = flat_map (λ r. rank_rows_of decl (record { clock = clock; app = app; port = port; rank = r }) items) (below (rank_count decl.map))
+
+-- nothing came to a port that is no continuous input
+abbrev pub HasNoRows : PortDecl → List Item → Type 0
+HasNoRows decl items = (length items ≡ 0) × (decl.direction ≡ Input → decl.kind ≡ Values → ⊥)
 
 -- of a rank that maps these indices: the row of the value at a local place, and the rows of an arrival
 abbrev pub value_row : ReadAt → List ℕ → (ℕ → ℤ) → ℕ → Row

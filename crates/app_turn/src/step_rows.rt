@@ -9,7 +9,7 @@ ghost use Rattle.scene_model.specs.Scenes.{app_at};
 ghost use Rattle.scene_model.specs.declared.port.Direction.TheVariants.{Input};
 ghost use Rattle.scene_model.specs.declared.port.PortKind.TheVariants.{Events};
 ghost use Rattle.rule_turns.specs.Turning.{AreInputs, IsInput};
-ghost use Rattle.app_turn.specs.Rows.{port_rows_of};
+ghost use Rattle.app_turn.specs.Rows.{HasNoRows, port_rows_of};
 
 use crate::by_rank::push_sorted;
 use crate::rows::{ReadAt, push_rank, rank_count};
@@ -54,7 +54,18 @@ fn splits_events(decl: &PortDecl) -> bool
     }
 }
 
-/// Adds what the ranks of a port get, rank by rank. Events that are split over ranks are sorted by them first.
+/// Whether nothing came to a port whose ranks have a row of each item alone. An output is such a port.
+fn is_quiet(decl: &PortDecl, items: &[Item]) -> bool
+    ensures { OnTrue result (HasNoRows decl.now items.now) }
+{
+    match (decl.direction, decl.kind) {
+        (Direction::Input, PortKind::Values) => false,
+        _ => items.is_empty(),
+    }
+}
+
+/// Adds what the ranks of a port get, rank by rank. Events that are split over ranks are sorted by them first, and where
+/// nothing came no rank is asked.
 fn push_port(
     alloc: Global,
     rows: &mut Items<Row>,
@@ -68,6 +79,9 @@ fn push_port(
     requires shaped { IsInput decl.now.direction decl.now.kind decl.now items.now }
     ensures { OnOk result (rows.new ≡ rows.old ++ port_rows_of decl.now clock app port items.now) }
 {
+    if is_quiet(decl, items) {
+        return Ok(());
+    }
     if splits_events(decl) {
         push_sorted(alloc, rows, clock, app, port, decl, items)
     } else {
