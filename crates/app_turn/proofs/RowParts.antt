@@ -26,7 +26,6 @@ use Rattle.scene_model.specs.declared.port.PortKind.TheVariants.{Events, Message
 use Rattle.scene_model.specs.declared.row.RowItem.TheVariants.{Event as EventRow}
 use Rattle.scene_model.specs.declared.scene.Scene.{Scene}
 use Rattle.app_turn.specs.Rows.{HasNoRows, port_rows_of, rank_rows_of, row_of}
-use Rattle.app_turn.specs.declared.rows.ReadAt.{ReadAt}
 
 at_end : (n : ℕ) → 0 + n ≡ n
 at_end n = omega arith
