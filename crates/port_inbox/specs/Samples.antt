@@ -106,6 +106,10 @@ abbrev pub IsPlaceOf : List ℕ → ℕ → Option ℕ → Type 0
 IsPlaceOf indices g None = list_any (λ i. i == g) indices ≡ false
 IsPlaceOf indices g (Some place) = (place < length indices) × (slice_index_or indices place 0 ≡ g)
 
--- a sample and a part of the way to the next one, rounded down; with no weight the sample itself
+-- a value and a part of the way to the next one, rounded down; with no weight the value itself
+abbrev pub point_between : ℤ → ℤ → ℕ → ℕ → ℤ
+point_between first next tick weight = if weight == 0 then first else first +ℤ floor_div ((next -ℤ first) *ℤ pos weight) tick
+
+-- the same from sample k on
 abbrev pub point : (ℕ → ℤ) → ℕ → ℕ → ℕ → ℤ
-point samples tick k weight = if weight == 0 then samples k else samples k +ℤ floor_div ((samples (k + 1) -ℤ samples k) *ℤ pos weight) tick
+point samples tick k weight = point_between (samples k) (samples (k + 1)) tick weight

@@ -48,7 +48,7 @@ impl KeptSamples {
     }
 
     /// Sample k, or the last one before it.
-    fn at(&self, k: u64) -> Option<&KeptSample>
+    pub fn at(&self, k: u64) -> Option<&KeptSample>
         requires { AreKept self.now }
         ensures kept { IfSome result (λ kept. IsKept self.now.indices kept.now) }
         ensures value { (g : ℕ) → value_kept result g ≡ sample_kept self.now g k }
@@ -62,18 +62,6 @@ impl KeptSamples {
         match &self.latest {
             Some(kept) if kept.block.number == number => Some(kept),
             _ => None,
-        }
-    }
-
-    /// Sample k of an index that stands at a place of the sender's indices, or the last one before it.
-    pub fn value(&self, k: u64, global: u32, place: Option<usize>) -> i64
-        requires kept { AreKept self.now }
-        requires place { IsPlaceOf self.now.indices global place }
-        ensures { result ≡ sample_kept self.now global k }
-    {
-        match self.at(k) {
-            Some(kept) => kept.value(self.indices.as_slice(), global, place),
-            None => 0,
         }
     }
 }

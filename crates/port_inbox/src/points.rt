@@ -1,9 +1,9 @@
 //! Values of many indices at one time.
-ghost use Rattle.std.specs.Prelude.{◌≡◌, ◌+◌, ◌^◌, ◌<◌, ◌≤◌, ◌%◌, if◌then◌else◌, length, map};
-ghost use Rattle.port_inbox.specs.KeptSamples.{AreKept, sample_kept};
-ghost use Rattle.port_inbox.specs.Samples.{IsPlaceOf, point};
+ghost use Rattle.std.specs.Prelude.{◌≡◌, ◌+◌, ◌^◌, ◌<◌, ◌≤◌, ◌%◌, IfSome, if◌then◌else◌, length, map};
+ghost use Rattle.port_inbox.specs.KeptSamples.{AreIndices, AreKept, IsKept, sample_kept, value_kept};
+ghost use Rattle.port_inbox.specs.Samples.{IsPlaceOf, point, point_between};
 
-use crate::kept_sample::place_of;
+use crate::kept_sample::{KeptSample, place_of};
 use crate::kept_samples::KeptSamples;
 use crate::parts::between;
 use music_base::Sample;
@@ -17,30 +17,50 @@ pub fn weight_of(interpolate: bool, late: u64, tick: u64) -> u64
     if interpolate { late % tick } else { 0 }
 }
 
-/// Sample k of an index, or the point between it and the next one where that has a weight.
+/// The value that a kept block, if there is one, has of an index that stands at a place of the sender's indices, else 0.
+fn value_kept(kept: Option<&KeptSample>, indices: &[u32], global: u32, place: Option<usize>) -> i64
+    requires kept { IfSome kept (λ kept. IsKept indices.now kept.now) }
+    requires ascend { AreIndices indices.now }
+    requires place { IsPlaceOf indices.now global place }
+    ensures { result ≡ value_kept kept.entry global }
+{
+    match kept {
+        Some(kept) => kept.value(indices, global, place),
+        None => 0,
+    }
+}
+
+/// The value of an index in the first block, or the point between it and that in the next one where that has a weight.
 fn point(
-    samples: &KeptSamples,
-    k: u64,
+    first: Option<&KeptSample>,
+    next: Option<&KeptSample>,
     weight: u64,
     tick: u64,
+    indices: &[u32],
     global: u32,
     place: Option<usize>,
 ) -> i64
-    requires kept { AreKept samples.now }
-    requires place { IsPlaceOf samples.now.indices global place }
-    requires count { k < 2 ^ 63 }
+    requires first { IfSome first (λ kept. IsKept indices.now kept.now) }
+    requires next { IfSome next (λ kept. IsKept indices.now kept.now) }
+    requires ascend { AreIndices indices.now }
+    requires place { IsPlaceOf indices.now global place }
     requires weight { weight < tick }
     requires tick { tick ≤ 10 ^ 12 }
-    ensures { result ≡ point (sample_kept samples.now global) tick k weight }
+    ensures { result ≡ point_between (value_kept first.entry global) (value_kept next.entry global) tick weight }
 {
-    let first = samples.value(k, global, place);
+    let value = value_kept(first, indices, global, place);
     if weight == 0 {
-        return first;
+        return value;
     }
-    between(first, samples.value(k + 1, global, place), weight, tick)
+    between(
+        value,
+        value_kept(next, indices, global, place),
+        weight,
+        tick,
+    )
 }
 
-/// The points of these indices, in their order.
+/// The points of these indices, in their order. The blocks are looked up once.
 pub fn fill_points(
     samples: &KeptSamples,
     k: u64,
@@ -56,10 +76,14 @@ pub fn fill_points(
     requires room { length values.old ≡ length globals.now }
     ensures { values.new ≡ map (λ g. point (sample_kept samples.now g) tick k weight) globals.now }
 {
+    let indices = samples.indices.as_slice();
+    let first = samples.at(k);
+    let next = samples.at(k + 1);
     let mut from = 0;
     for i in 0..globals.len() {
-        let place = place_of(samples.indices.as_slice(), from, globals[i]);
+        let place = place_of(indices, from, globals[i]);
         from = place.unwrap_or(from);
-        values[i] = Sample(point(samples, k, weight, tick, globals[i], place));
+        let value = point(first, next, weight, tick, indices, globals[i], place);
+        values[i] = Sample(value);
     }
 }
