@@ -43,21 +43,21 @@ joined_value clock app port kind rank local global value =
     ∙ sym (commas-append (clock ∷ app ∷ port ∷ kind ∷ rank ∷ local ∷ global ∷ [] ∷ []) value (line_end ∷ []))
 
 -- the line of a row of an event, and of a row of a value
-pub event_line_is : (scene : Scene) (row : Row) (fields : RankFields) (clock local global time : ℕ) (ready : List ℕ)
+pub event_line_is : (scene : Scene) (row : Row) (fields : RankFields) (clock : List ℕ) (local global time : ℕ) (ready : List ℕ)
     → AreRankFields scene row.app row.port row.rank fields → fields.kind ≡ Events → ready ≡ fields.text.items
-    → row.clock ≡ clock → row.item ≡ EventRow local global time → event_line clock ready local global time ≡ line_of scene row
+    → clock ≡ decimal row.clock → row.item ≡ EventRow local global time → event_line clock ready local global time ≡ line_of scene row
 unfolding line_of
 event_line_is scene row fields clock local global time ready are kind text at item =
     let of_port : (port_at scene row.app row.port).kind ≡ Events = sym are.kind ∙ kind in
-    rw (text, are.text, of_port, item, at) (joined_event (decimal clock) (app_at scene row.app).name (port_at scene row.app row.port).name (codes "event") (decimal row.rank) (decimal local) (decimal global) (decimal time))
+    rw (text, are.text, of_port, item, at) (joined_event (decimal row.clock) (app_at scene row.app).name (port_at scene row.app row.port).name (codes "event") (decimal row.rank) (decimal local) (decimal global) (decimal time))
 
-pub value_line_is : (scene : Scene) (row : Row) (fields : RankFields) (clock local global : ℕ) (value : ℤ) (ready : List ℕ)
+pub value_line_is : (scene : Scene) (row : Row) (fields : RankFields) (clock : List ℕ) (local global : ℕ) (value : ℤ) (ready : List ℕ)
     → AreRankFields scene row.app row.port row.rank fields → fields.kind ≡ Values → ready ≡ fields.text.items
-    → row.clock ≡ clock → row.item ≡ ValueRow local global value → value_line clock ready local global value ≡ line_of scene row
+    → clock ≡ decimal row.clock → row.item ≡ ValueRow local global value → value_line clock ready local global value ≡ line_of scene row
 unfolding line_of
 value_line_is scene row fields clock local global value ready are kind text at item =
     let of_port : (port_at scene row.app row.port).kind ≡ Values = sym are.kind ∙ kind in
-    rw (text, are.text, of_port, item, at) (joined_value (decimal clock) (app_at scene row.app).name (port_at scene row.app row.port).name (codes "cont") (decimal row.rank) (decimal local) (decimal global) (signed_decimal value))
+    rw (text, are.text, of_port, item, at) (joined_value (decimal row.clock) (app_at scene row.app).name (port_at scene row.app row.port).name (codes "cont") (decimal row.rank) (decimal local) (decimal global) (signed_decimal value))
 
 -- what is appended piece by piece is the line of a value
 pub value_pushed : (page clock ready local global value : List ℕ)

@@ -48,11 +48,12 @@ serves Events (EventRow local global time) = true
 serves Values (ValueRow local global value) = true
 serves _ _ = false
 
--- the line of an event and the line of a value, where the text `ready` stands between the clock and the local place
-abbrev pub event_line : ℕ → List ℕ → ℕ → ℕ → ℕ → List ℕ
+-- the line of an event and the line of a value, where `clock` is the text of the clock, and `ready` stands between it and the
+-- local place
+abbrev pub event_line : List ℕ → List ℕ → ℕ → ℕ → ℕ → List ℕ
 event_line clock ready local global time =
-    decimal clock ++ ready ++ decimal local ++ comma ∷ decimal global ++ comma ∷ decimal time ++ comma ∷ line_end ∷ []
+    clock ++ ready ++ decimal local ++ comma ∷ decimal global ++ comma ∷ decimal time ++ comma ∷ line_end ∷ []
 
-abbrev pub value_line : ℕ → List ℕ → ℕ → ℕ → ℤ → List ℕ
+abbrev pub value_line : List ℕ → List ℕ → ℕ → ℕ → ℤ → List ℕ
 value_line clock ready local global value =
-    decimal clock ++ ready ++ decimal local ++ comma ∷ decimal global ++ comma ∷ comma ∷ signed_decimal value ++ line_end ∷ []
+    clock ++ ready ++ decimal local ++ comma ∷ decimal global ++ comma ∷ comma ∷ signed_decimal value ++ line_end ∷ []

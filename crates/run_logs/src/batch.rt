@@ -5,6 +5,7 @@ ghost use Rattle.scene_model.specs.Logs.{is_writable, line_of};
 ghost use Rattle.scene_model.specs.declared.scene.Scene.{Scene};
 ghost use Rattle.run_logs.specs.QuickLines.{AreOfScene, AreRankFields};
 
+use crate::clock_text::ClockText;
 use crate::field_table::{FieldTable, find};
 use crate::lines::row_bytes;
 use crate::page::Page;
@@ -17,11 +18,12 @@ use std::alloc::Global;
 // The clock, the places and the time of a row have no more bytes, with the commas and the line's end.
 const MOST_OF_NUMBERS: usize = 100;
 
-/// The text of a batch: what is made, and behind it the lines on a page.
+/// The text of a batch: what is made, and behind it the lines on a page; and the clock of the last of these.
 #[derive(Drop)]
 pub struct Batch {
     text: Vec<u8>,
     page: Page,
+    at: ClockText,
 }
 
 impl Batch {
@@ -33,6 +35,7 @@ impl Batch {
         Ok(Batch {
             text: Vec::new(alloc),
             page,
+            at: ClockText::of(0),
         })
     }
 
@@ -57,7 +60,7 @@ impl Batch {
             self.turn_page()?;
         }
         if self.page.has_room(most) {
-            return Ok(push_ready(&mut self.page, fields, row));
+            return Ok(push_ready(&mut self.page, &mut self.at, fields, row));
         }
         Ok(false)
     }

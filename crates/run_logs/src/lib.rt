@@ -4,6 +4,7 @@
 #![tactic(auto)]
 
 mod batch;
+mod clock_text;
 mod field_table;
 mod fields;
 mod lines;
@@ -15,6 +16,7 @@ mod quick_lines;
 mod ranks;
 mod writing;
 
+pub use clock_text::ClockText;
 pub use lines::row_bytes;
 pub use merging::RowMerger;
 pub use order::row_order;

@@ -1,4 +1,5 @@
 use Rattle.std.proofs.Common.{◌≡◌, ◌∙◌, ◌++◌, ap, refl, rules, sym, to_z, of_z}
+use Rattle.std.specs.Fmt.{decimal}
 use Rattle.std.specs.Int.{w64}
 use Rattle.scene_model.specs.declared.row.Row.{Row}
 use Rattle.run_logs.proofs.ReadyLines.{event_line_is, value_line_is}
@@ -6,13 +7,15 @@ use Rattle.run_logs.proofs.quick_lines.push_ready.Goals as goal
 
 pub returns-in-Event-clause-pushed : goal.returns-in-Event-clause-pushed
 returns-in-Event-clause-pushed c = λ so scene are.
+    let clock : c.text-digits.result.now ≡ decimal c.args.row.now.clock = c.text-digits.ensures.text ∙ ap decimal (c.set.ensures ∙ ap (λ (row : Row). row.clock) c.row.view_is) in
     c.push_event.ensures
-    ∙ ap (λ text. c.args.page.now ++ text) (event_line_is scene c.args.row.now c.args.fields.now _ _ _ _ _ are (c.are_of.ensures.0 c.if-are_of.true) c.text.ensures
-    (ap (λ (row : Row). row.clock) (sym c.row.view_is)) (ap (λ (row : Row). row.item) (sym c.row.view_is) ∙ (let h = c.in-Event.is in cc)))
+    ∙ ap (λ text. c.args.page.now ++ text) (event_line_is scene c.args.row.now c.args.fields.now _ _ _ _ _ are (c.are_of.ensures.0 c.if-are_of.true) c.text-ready.ensures
+    clock (ap (λ (row : Row). row.item) (sym c.row.view_is) ∙ (let h = c.in-Event.is in cc)))
 
 pub returns-in-Value-clause-pushed : goal.returns-in-Value-clause-pushed
 returns-in-Value-clause-pushed c = λ so scene are.
     let number : to_z w64 (of_z w64 c.value.inside.0) ≡ c.value.inside.0 = search rules in
+    let clock : c.text-digits.result.now ≡ decimal c.args.row.now.clock = c.text-digits.ensures.text ∙ ap decimal (c.set.ensures ∙ ap (λ (row : Row). row.clock) c.row.view_is) in
     c.push_value.ensures
-    ∙ ap (λ text. c.args.page.now ++ text) (rw number (value_line_is scene c.args.row.now c.args.fields.now _ _ _ _ _ are (c.if-are_of-2.ensures.0 refl) c.text-in-Value.ensures
-    (ap (λ (row : Row). row.clock) (sym c.row.view_is)) (ap (λ (row : Row). row.item) (sym c.row.view_is) ∙ (let h = c.in-Value.is in cc))))
+    ∙ ap (λ text. c.args.page.now ++ text) (rw number (value_line_is scene c.args.row.now c.args.fields.now _ _ _ _ _ are (c.if-are_of-2.ensures.0 refl) c.text-ready.ensures
+    clock (ap (λ (row : Row). row.item) (sym c.row.view_is) ∙ (let h = c.in-Value.is in cc))))

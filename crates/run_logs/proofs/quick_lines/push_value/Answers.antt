@@ -9,6 +9,6 @@ use Rattle.run_logs.proofs.quick_lines.push_value.Goals as goal
 
 pub returns : goal.returns
 returns c =
-    c.append-2.ensures.text
-    ∙ ap (λ text. text ++ line_end ∷ []) (c.signed.ensures.text ∙ ap (λ number. c.append.new.self ++ signed_decimal number) (to_z-of_z w64 c.args.value c.ranges.value) ∙ ap (λ text. text ++ signed_decimal c.args.value) (c.append.ensures.text ∙ ap (λ text. text ++ comma ∷ []) c.push_front.ensures.text))
-    ∙ value_pushed c.args.page.now (decimal c.args.clock) c.args.ready.now (decimal c.args.local) (decimal c.args.global) (signed_decimal c.args.value)
+    c.push-2.ensures.text
+    ∙ ap (λ text. text ++ line_end ∷ []) (c.signed.ensures.text ∙ ap (λ number. c.push.new.self ++ signed_decimal number) (to_z-of_z w64 c.args.value c.ranges.value) ∙ ap (λ text. text ++ signed_decimal c.args.value) (c.push.ensures.text ∙ ap (λ text. text ++ comma ∷ []) c.push_front.ensures.text))
+    ∙ value_pushed c.args.page.now c.args.clock.now c.args.ready.now (decimal c.args.local) (decimal c.args.global) (signed_decimal c.args.value)
