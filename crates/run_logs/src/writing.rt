@@ -16,7 +16,7 @@ use std::marker::Model;
 // The rows whose lines are made and written together.
 const BATCH: usize = 1024;
 
-/// Why a log was not written whole.
+/// Why a text was not written whole.
 #[derive(Clone, Copy, Debug, PartialEq, Eq)]
 pub enum WriteFault {
     /// The sink failed in this call.
