@@ -100,7 +100,11 @@ module _ (scene : Scene) (limits : List ℕ) (core next : CoreView) (run : IsRun
       let after : IsRunning scene limits next = release_runs handed is in
       let G : Scene → Type 0 = λ x. AllFinished x next.counts in
       let H : Counts → Type 0 = λ x. AllFinished core.scene x in
-      (after.order, done_after scene limits after.order next after.is_after (subst G (sym is.same_scene) (subst H (sym is.same_counts) finished)))
+      record {
+        order = after.order;
+        is_done = done_after scene limits after.order next after.is_after (subst G (sym is.same_scene) (subst H (sym is.same_counts) finished));
+        all_out = is.all finished ∙ ap (λ (s : Scene). rows s (history s)) run.is_after.is_scene;
+      }
 
 -- ---- the beginning
 

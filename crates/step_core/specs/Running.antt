@@ -1,6 +1,7 @@
 -- A core that is driven to its end, and what of its log was written.
-use Rattle.std.specs.Prelude.{ℕ, List}
-use Rattle.scene_model.specs.Logs.{text_of}
+use Rattle.std.specs.Prelude.{◌≡◌, ℕ, List}
+use Rattle.scene_model.specs.Lives.{history}
+use Rattle.scene_model.specs.Logs.{rows, text_of}
 use Rattle.scene_model.specs.declared.act.Act.{Act}
 use Rattle.scene_model.specs.declared.scene.Scene.{Scene}
 use Rattle.step_core.specs.Cores.{BeginsLog, CoreView, IsAfter, IsDone, rows_out}
@@ -11,9 +12,11 @@ pub record IsRunning (scene : Scene) (limits : List ℕ) (core : CoreView) : Typ
   pub is_after : IsAfter scene limits order core
   pub begins : BeginsLog core
 
--- a lawful order of acts led to this core, and it has nothing left to do
-abbrev pub HasRun : Scene → List ℕ → CoreView → Type 0
-HasRun scene limits core = (order : List Act) × IsDone scene limits order core
+-- a lawful order of acts led to this core, it has nothing left to do, and it handed out all rows of the log
+pub record HasRun (scene : Scene) (limits : List ℕ) (core : CoreView) : Type 0 where
+  pub order : List Act
+  pub is_done : IsDone scene limits order core
+  pub all_out : rows_out core ≡ rows scene (history scene)
 
 -- the text of the rows that were handed out: the header, and a line for each
 abbrev pub text_out : CoreView → List ℕ
