@@ -17,10 +17,9 @@ const TICKS_AT_ONCE: u64 = 16;
 /// An application as the schedule sees it.
 #[derive(Drop)]
 struct Entry {
-    app: AppId,
-    /// The connections that it is an end of.
-    links: Vec<LinkId>,
-    /// The place in `links` to look at first: where it last acted.
+    /// What it can do, in the order in which it mostly does it: all takes, a step, all puts.
+    acts: Vec<Act>,
+    /// The place in `acts` to look at first, which is behind the last act that was found.
     at: usize,
     /// The clock of its next step, in ns.
     clock: u64,
@@ -29,45 +28,25 @@ struct Entry {
     listed: bool,
 }
 
-/// An act of a connection that is allowed.
-fn link_act(core: &Core, link: LinkId) -> Option<Act>
-    ensures { IfSome result (λ act. Can core.now act) }
-{
-    if core.can(Act::Put(link)) {
-        return Some(Act::Put(link));
-    }
-    if core.can(Act::Take(link)) {
-        return Some(Act::Take(link));
-    }
-    None
-}
-
-/// A step of the application, where it is allowed.
-fn run_act(core: &Core, app: AppId) -> Option<Act>
-    ensures { IfSome result (λ act. Can core.now act) }
-{
-    if core.can(Act::Run(app)) {
-        return Some(Act::Run(app));
-    }
-    None
-}
-
 impl Entry {
-    /// An act of the application or of one of its connections that is allowed.
+    /// Goes on to the next place, round and round.
+    fn go_on(&mut self) {
+        let next = self.at.saturating_add(1);
+        self.at = if next < self.acts.len() { next } else { 0 };
+    }
+
+    /// The first act of the application that is allowed, from the place to look at on.
     fn act(&mut self, core: &Core) -> Option<Act>
         ensures { IfSome result (λ act. Can core.now act) }
     {
-        for _ in 0..self.links.len() {
-            if let Some(link) = self.links.get(self.at) {
-                let act = link_act(core, *link);
-                if act.is_some() {
-                    return act;
-                }
+        for _ in 0..self.acts.len() {
+            let act = *self.acts.get(self.at)?;
+            self.go_on();
+            if core.can(act) {
+                return Some(act);
             }
-            let next = self.at.saturating_add(1);
-            self.at = if next < self.links.len() { next } else { 0 };
         }
-        run_act(core, self.app)
+        None
     }
 }
 
@@ -78,16 +57,33 @@ fn places(count: usize) -> u32
     count.min(u32::MAX as usize) as u32
 }
 
-/// The connections that an application is an end of.
-fn links_of(alloc: Global, scene: &Scene, app: AppId) -> Result<Vec<LinkId>, NoMemory> {
-    let mut links = Vec::new(alloc);
+/// Appends the takes of an application.
+fn push_takes(acts: &mut Vec<Act>, scene: &Scene, app: AppId) -> Result<(), NoMemory> {
     for place in 0..places(scene.links.len()) {
-        let link = &scene.links.as_slice()[place as usize];
-        if link.from_app == app || link.to_app == app {
-            links.push(LinkId(place))?;
+        if scene.links.as_slice()[place as usize].to_app == app {
+            acts.push(Act::Take(LinkId(place)))?;
         }
     }
-    Ok(links)
+    Ok(())
+}
+
+/// Appends the puts of an application.
+fn push_puts(acts: &mut Vec<Act>, scene: &Scene, app: AppId) -> Result<(), NoMemory> {
+    for place in 0..places(scene.links.len()) {
+        if scene.links.as_slice()[place as usize].from_app == app {
+            acts.push(Act::Put(LinkId(place)))?;
+        }
+    }
+    Ok(())
+}
+
+/// All that an application can do.
+fn acts_of(alloc: Global, scene: &Scene, app: AppId) -> Result<Vec<Act>, NoMemory> {
+    let mut acts = Vec::new(alloc);
+    push_takes(&mut acts, scene, app)?;
+    acts.push(Act::Run(app))?;
+    push_puts(&mut acts, scene, app)?;
+    Ok(acts)
 }
 
 /// The place of the listed application with the least clock.
@@ -122,10 +118,8 @@ impl Schedule {
         let mut entries = Vec::new(alloc);
         for place in 0..places(scene.apps.len()) {
             let declared = &scene.apps.as_slice()[place as usize];
-            let app = AppId(place);
             entries.push(Entry {
-                app,
-                links: links_of(alloc, scene, app)?,
+                acts: acts_of(alloc, scene, AppId(place))?,
                 at: 0,
                 clock: declared.start.0,
                 tick: declared.tick.0,
