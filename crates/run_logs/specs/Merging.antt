@@ -50,6 +50,13 @@ pub record AreQueues (spare : ℕ) (queues : List QueuedRows) : Type 0 where
   pub room : AllByRecursion (λ queue. spare ≤ queue.spare) queues
   pub rows : (b : ℕ) → AreRowsOf b (rows_of (held_by queues) b)
 
+-- all rows have this clock, and each list has some row
+abbrev pub HaveClock : ℕ → List Row → Type 0
+HaveClock clock rows = AllByRecursion (λ row. row.clock ≡ clock) rows
+
+abbrev pub HaveRows : List (List Row) → Type 0
+HaveRows lists = AllByRecursion (λ rows. 0 < length rows) lists
+
 -- ---- the next step
 
 -- the clock of the first row
@@ -75,6 +82,6 @@ pub record IsNext (held : List (List Row)) (least place clock : ℕ) : Type 0 wh
 pub record AreMoved (clock : ℕ) (old new before after : List Row) : Type 0 where
   pub step : List Row
   pub some : 0 < length step
-  pub same : AllByRecursion (λ row. row.clock ≡ clock) step
+  pub same : HaveClock clock step
   pub split : old ≡ step ++ new
   pub moved : after ≡ before ++ step

@@ -1,9 +1,9 @@
 //! The rows that are held of one application.
-ghost use Rattle.std.specs.Prelude.{◌≡◌, ◌<◌, ◌≤◌, ◌+◌, ◌-◌, ◌++◌, [], length, vec_len, vec_capacity, Some, true, IfNone, IfSome, OnOk, OnErr};
-ghost use Rattle.std.specs.List.{flat_map};
+ghost use Rattle.std.specs.Prelude.{◌≡◌, ◌<◌, ◌≤◌, ◌+◌, ◌-◌, ◌++◌, ◌∷◌, [], length, vec_len, vec_capacity, Some, true, IfNone, IfSome, OnOk, OnErr};
+ghost use Rattle.std.specs.List.{AllByRecursion, flat_map};
 ghost use Rattle.std.specs.Option.{option_to_list};
 ghost use Rattle.std.specs.VecDeque.{deque_capacity, deque_len};
-ghost use Rattle.run_logs.specs.Merging.{AreMoved, begins_from, first_clock};
+ghost use Rattle.run_logs.specs.Merging.{AreMoved, HaveClock, HaveRows, begins_from, first_clock};
 
 use music_base::{Items, NoMemory};
 use scene_model::Row;
@@ -11,39 +11,107 @@ use std::alloc::Global;
 use std::collections::VecDeque;
 use std::marker::Model;
 
-/// Rows in the lists in which they were admitted. What is left of the first list stands apart; it is empty only where no
-/// row is held.
+/// Rows in the lists in which they were admitted, none of which is empty. What is left of a list of which some rows were
+/// taken stands apart, in front of the others.
 #[derive(Drop)]
 pub struct Queue {
     first: VecDeque<Row>,
     later: VecDeque<Items<Row>>,
+    front: Option<u64>,
     spare: usize,
 }
 
 impl Model for Queue {
-    ghost use Rattle.std.specs.Prelude.{◌≡◌, ◌≤◌, ◌+◌, ◌++◌, []};
+    ghost use Rattle.std.specs.Prelude.{◌≡◌, ◌≤◌, ◌+◌, ◌++◌};
     ghost use Rattle.std.specs.List.{flat_map};
     ghost use Rattle.std.specs.VecDeque.{deque_len, deque_capacity};
-    ghost use Rattle.run_logs.specs.Merging.{QueuedRows};
+    ghost use Rattle.run_logs.specs.Merging.{HaveRows, QueuedRows, first_clock};
 
     ghost Value = { QueuedRows };
 
     ghost view = { λ q. record { rows = q.first.items ++ flat_map (λ rows. rows) q.later.items; spare = q.spare } };
 
-    ghost invariant = { λ q. (deque_len q.later + q.spare ≤ deque_capacity q.later) × (q.first.items ≡ [] → q.later.items ≡ []) };
+    ghost invariant = { λ q. (deque_len q.later + q.spare ≤ deque_capacity q.later) × (q.front ≡ first_clock (q.first.items ++ flat_map (λ rows. rows) q.later.items)) × HaveRows q.later.items };
 }
 
-// Goes on to the next list that has rows, where no row of the first is left.
-fn refill(first: &mut VecDeque<Row>, later: &mut VecDeque<Items<Row>>)
-    ensures rows { first.new.items ++ flat_map (λ rows. rows) later.new.items ≡ first.old.items ++ flat_map (λ rows. rows) later.old.items }
-    ensures some { first.new.items ≡ [] → later.new.items ≡ [] }
+// The clock of the first row of a list.
+fn clock_of(rows: &[Row]) -> Option<u64>
+    ensures { result ≡ first_clock rows.now }
+{
+    match rows.first() {
+        Some(row) => Some(row.clock.0),
+        None => None,
+    }
+}
+
+// The clock of the first row of all.
+fn front_of(first: &VecDeque<Row>, later: &VecDeque<Items<Row>>) -> Option<u64>
+    requires { HaveRows later.now.items }
+    ensures { result ≡ first_clock (first.now.items ++ flat_map (λ rows. rows) later.now.items) }
+{
+    if let Some(row) = first.front() {
+        return Some(row.clock.0);
+    }
+    match later.front() {
+        Some(rows) => clock_of(rows.as_slice()),
+        None => None,
+    }
+}
+
+// Whether all rows have this clock.
+fn have_clock(rows: &[Row], clock: u64) -> bool
+    ensures { result ≡ true → HaveClock clock rows.now }
+{
+    for row in rows {
+        if row.clock.0 != clock {
+            return false;
+        }
+    }
+    true
+}
+
+// Takes off the first list, where no row is left of one before and all its rows have this clock.
+fn take_whole(
+    first: &VecDeque<Row>,
+    later: &mut VecDeque<Items<Row>>,
+    clock: u64,
+) -> Option<Vec<Row>>
+    ensures none { IfNone result (later.new.items ≡ later.old.items) }
+    ensures front { IfSome result (λ rows. first.now.items ≡ []) }
+    ensures taken { IfSome result (λ rows. later.old.items ≡ rows.items ∷ later.new.items) }
+    ensures clock { IfSome result (λ rows. HaveClock clock rows.items) }
     ensures room { deque_len later.new ≤ deque_len later.old }
     ensures capacity { deque_capacity later.new ≡ deque_capacity later.old }
 {
-    while first.is_empty() {
+    if !first.is_empty() {
+        return None;
+    }
+    let is_whole = match later.front() {
+        Some(rows) => have_clock(rows.as_slice(), clock),
+        None => false,
+    };
+    if !is_whole {
+        return None;
+    }
+    match later.pop_front() {
+        Some(rows) => Some(rows.into_vec()),
+        None => None,
+    }
+}
+
+// Goes on to the next list, where no row of the first is left.
+fn refill(first: &mut VecDeque<Row>, later: &mut VecDeque<Items<Row>>)
+    requires { HaveRows later.old.items }
+    ensures rows { first.new.items ++ flat_map (λ rows. rows) later.new.items ≡ first.old.items ++ flat_map (λ rows. rows) later.old.items }
+    ensures some { first.new.items ≡ [] → later.new.items ≡ [] }
+    ensures lists { HaveRows later.new.items }
+    ensures room { deque_len later.new ≤ deque_len later.old }
+    ensures capacity { deque_capacity later.new ≡ deque_capacity later.old }
+{
+    if first.is_empty() {
         match later.pop_front() {
             Some(rows) => *first = VecDeque::from_vec(rows.into_vec()),
-            None => break,
+            None => {}
         }
     }
 }
@@ -67,6 +135,7 @@ impl Queue {
         Queue {
             first: VecDeque::new(alloc),
             later: VecDeque::new(alloc),
+            front: None,
             spare: 0,
         }
     }
@@ -87,24 +156,23 @@ impl Queue {
         ensures { self.new ≡ record { rows = self.old.rows ++ rows; spare = self.old.spare - 1 } }
     {
         self.spare -= 1;
-        if self.first.is_empty() {
-            self.first = VecDeque::from_vec(rows.into_vec());
-        } else if !rows.is_empty() {
-            self.later.push_back(rows).unwrap();
+        if rows.is_empty() {
+            return;
         }
+        self.later.push_back(rows).unwrap();
+        self.front = front_of(&self.first, &self.later);
     }
 
     /// The clock of the first row, in ns.
+    #[inline]
     pub fn first_clock(&self) -> Option<u64>
         ensures { result ≡ first_clock self.now.rows }
     {
-        match self.first.front() {
-            Some(row) => Some(row.clock.0),
-            None => None,
-        }
+        self.front
     }
 
     /// The clock of the first row, where it is below the bound.
+    #[inline]
     pub fn clock_below(&self, bound: u64) -> Option<u64>
         ensures none { IfNone result (begins_from bound self.now.rows ≡ true) }
         ensures first { IfSome result (λ clock. first_clock self.now.rows ≡ Some clock) }
@@ -119,9 +187,40 @@ impl Queue {
         ensures none { IfNone result (self.old.rows ≡ []) }
         ensures spare { self.new.spare ≡ self.old.spare }
     {
-        let row = self.first.pop_front();
         refill(&mut self.first, &mut self.later);
+        let row = self.first.pop_front();
+        self.front = front_of(&self.first, &self.later);
         row
+    }
+
+    /// Takes the rows of the first list off, where none of them was taken before and all have this clock.
+    fn take_list(&mut self, clock: u64) -> Option<Vec<Row>>
+        ensures none { IfNone result (self.new ≡ self.old) }
+        ensures rows { IfSome result (λ rows. self.old.rows ≡ rows.items ++ self.new.rows) }
+        ensures some { IfSome result (λ rows. 0 < length rows.items) }
+        ensures clock { IfSome result (λ rows. HaveClock clock rows.items) }
+        ensures spare { self.new.spare ≡ self.old.spare }
+    {
+        let rows = take_whole(&self.first, &mut self.later, clock)?;
+        self.front = front_of(&self.first, &self.later);
+        Some(rows)
+    }
+
+    /// Moves some of the first rows, which have this clock, behind those of `to`: a whole list where that is possible.
+    fn move_some(&mut self, clock: u64, to: &mut Vec<Row>)
+        requires first { first_clock self.old.rows ≡ Some clock }
+        requires room { vec_len to.old + length self.old.rows ≤ vec_capacity to.old }
+        ensures moved { AreMoved clock self.old.rows self.new.rows to.old.items to.new.items }
+        ensures spare { self.new.spare ≡ self.old.spare }
+        ensures room { vec_capacity to.old ≤ vec_capacity to.new }
+    {
+        if let Some(mut rows) = self.take_list(clock) {
+            to.append(&mut rows).unwrap();
+            return;
+        }
+        if let Some(row) = self.pop() {
+            to.push(row).unwrap();
+        }
     }
 
     /// Moves the first rows, which have this clock, behind those of `to`. There is room for all rows, so that it takes
@@ -134,9 +233,7 @@ impl Queue {
         ensures room { vec_capacity to.old ≤ vec_capacity to.new }
     {
         while self.first_clock() == Some(clock) {
-            if let Some(row) = self.pop() {
-                to.push(row).unwrap();
-            }
+            self.move_some(clock, to);
         }
     }
 
