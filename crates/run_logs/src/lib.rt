@@ -5,6 +5,7 @@
 
 mod batch;
 mod clock_text;
+mod counting;
 mod field_table;
 mod fields;
 mod lines;
@@ -17,6 +18,7 @@ mod ranks;
 mod writing;
 
 pub use clock_text::ClockText;
+pub use counting::{LogCounter, LogSize, header_size};
 pub use lines::row_bytes;
 pub use merging::RowMerger;
 pub use order::row_order;

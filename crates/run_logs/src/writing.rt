@@ -14,7 +14,7 @@ use std::alloc::Global;
 use std::marker::Model;
 
 // The rows whose lines are made and written together.
-const BATCH: usize = 1024;
+pub(crate) const BATCH: usize = 1024;
 
 /// Why a text was not written whole.
 #[derive(Clone, Copy, Debug, PartialEq, Eq)]
@@ -27,7 +27,7 @@ pub enum WriteFault {
 
 /// The names of the nine columns.
 #[tactic(auto, unfolding(scene_model::specs::Logs::header))]
-fn header() -> &'static [u8]
+pub(crate) fn header() -> &'static [u8]
     ensures { result.now ≡ header }
 {
     b"clock,app,port,kind,rank,local,global,time,value\n"
