@@ -15,3 +15,4 @@ pub mod Growing
 pub mod Releases
 pub mod NextClocks
 pub mod Running
+pub mod Sizes

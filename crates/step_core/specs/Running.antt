@@ -1,9 +1,10 @@
 -- A core that is driven to its end, and what of its log was written.
-use Rattle.std.specs.Prelude.{◌≡◌, ℕ, List}
+use Rattle.std.specs.Prelude.{◌≡◌, ℕ, List, length}
 use Rattle.scene_model.specs.Lives.{history}
 use Rattle.scene_model.specs.Logs.{rows, text_of}
 use Rattle.scene_model.specs.declared.act.Act.{Act}
 use Rattle.scene_model.specs.declared.scene.Scene.{Scene}
+use Rattle.run_logs.specs.declared.counting.LogSize.{LogSize}
 use Rattle.step_core.specs.Cores.{BeginsLog, CoreView, IsAfter, IsDone, rows_out}
 
 -- a lawful order of acts led to this core, and the rows that it handed out begin the log's
@@ -21,3 +22,10 @@ pub record HasRun (scene : Scene) (limits : List ℕ) (core : CoreView) : Type 0
 -- the text of the rows that were handed out: the header, and a line for each
 abbrev pub text_out : CoreView → List ℕ
 text_out core = text_of core.scene (rows_out core)
+
+-- ---- sizes
+
+-- so many rows were handed out, and so many bytes has their text with the header
+pub record IsSizeOut (core : CoreView) (size : LogSize) : Type 0 where
+  pub count : size.rows ≡ length (rows_out core)
+  pub text : size.bytes ≡ length (text_out core)

@@ -2,6 +2,7 @@
 #![tactic(auto)]
 
 mod alone;
+mod counted;
 mod laws;
 mod releasing;
 mod scene_core;
@@ -10,6 +11,7 @@ mod starts;
 mod to_sink;
 
 pub use alone::run_alone;
+pub use counted::run_counted;
 pub use laws::{cores_begin_the_log, puts_find_room};
 pub use scene_core::Core;
 pub use to_sink::run_to_sink;

@@ -25,7 +25,7 @@ const ROWS_AT_ONCE: usize = 4096;
 const ACTS_AT_ONCE: u64 = 64;
 
 /// Whether rows are to be written after so many acts.
-fn is_due(core: &Core, acts: u64) -> bool {
+pub(crate) fn is_due(core: &Core, acts: u64) -> bool {
     acts % ACTS_AT_ONCE == 0 && core.rows.row_count() >= ROWS_AT_ONCE
 }
 
