@@ -12,11 +12,15 @@ use Rattle.music_setup.specs.declared.fault.SetupFault.{SetupFault}
 use Rattle.music_setup.specs.declared.fault.SetupFault.TheVariants as setup
 use Rattle.music_setup.specs.Setups.{IsConfigFault}
 use Rattle.music_setup.proofs.SceneNames.{names_of_scene}
-use Rattle.music_cli.specs.Words.{command_of}
-use Rattle.music_cli.specs.Answers.{Answers, AnswersCommand, AnswersConfig, AnswersDone, AnswersFault, AnswersText, Writes}
+use Rattle.scene_make.specs.Made.{made}
+use Rattle.command_words.specs.Words.{command_of}
+use Rattle.command_words.specs.declared.command.Command.{Command}
+use Rattle.command_words.specs.declared.command.Command.TheVariants.{Load}
+use Rattle.music_cli.specs.Words.{take_input}
+use Rattle.music_cli.specs.Answers.{Answers, AnswersAsked, AnswersCommand, AnswersConfig, AnswersDone, AnswersFault, AnswersMade, AnswersText, Writes}
 use Rattle.music_cli.specs.Clauses.{Ends, IsGiven, IsSaid, Wrote, WrotePrefix, Failed, DidNotFail}
-use Rattle.music_cli.proofs.SomeAnswers.{config_answer, text_answer}
-use Rattle.music_cli.specs.declared.command_line.Command.{Command}
+use Rattle.music_cli.proofs.Input.{command_takes_input}
+use Rattle.music_cli.proofs.SomeAnswers.{config_answer, made_answer, text_answer, text_to_asked}
 use Rattle.music_cli.specs.declared.status.Status.{Status}
 use Rattle.music_cli.specs.declared.status.Status.TheVariants.{Done, NoMemory, WriteFault}
 
@@ -62,6 +66,9 @@ config_no_memory command config told faults lawful = given_none (AnswersConfig c
 pub text_no_memory : (command : Command) (bytes : List ℕ) (told : Option (List ℕ)) (faults : ℕ) → IsGiven (AnswersText command bytes) (still told faults) NoMemory
 text_no_memory command bytes told faults = given_none (AnswersText command bytes) told faults (text_answer command bytes)
 
+pub made_no_memory : (number workers : ℕ) (told : Option (List ℕ)) (faults : ℕ) → IsGiven (AnswersMade number workers) (still told faults) NoMemory
+made_no_memory number workers told faults = given_none (AnswersMade number workers) told faults (made_answer number workers)
+
 -- ---- what is said of a configuration
 
 -- an answer that was given is one of each kind that it belongs to
@@ -95,9 +102,16 @@ pub given_refused : (command : Command) (config : Config) (fault : SetupFault) (
 given_refused command config fault sink result is some given =
     given_as (AnswersFault (Some config) fault) (AnswersConfig command config) sink result (λ status text answers. refused command config fault status text is some answers) given
 
--- what a command gave to what was read, it gave to the words
-pub given_to_words : (command : Command) (words : List (List ℕ)) (bytes read : List ℕ) (sink : Ends) (result : Status) → read ≡ bytes → command_of words ≡ Some command
-    → IsGiven (AnswersText command read) sink result → IsGiven (Answers words bytes) sink result
-given_to_words command words bytes read sink result same is given =
+-- the accepted scene that is made from a number is answered
+pub given_made : (number workers : ℕ) (scene : Scene) (sink : Ends) (result : Status) → scene_of (made number) ≡ Ok scene → IsAccepted scene
+    → IsGiven (AnswersDone (Load number workers) scene) sink result → IsGiven (AnswersMade number workers) sink result
+given_made number workers scene sink result describes accepted given =
+    given_as (AnswersDone (Load number workers) scene) (AnswersMade number workers) sink result (λ status text done. (scene, describes, accepted, done)) given
+
+-- what a command that takes input gave to it, it gave to the words
+pub given_to_words : (command : Command) (words : List (List ℕ)) (bytes : List ℕ) (sink : Ends) (result : Status) → command_of words ≡ Some command → take_input words ≡ true
+    → IsGiven (AnswersText command bytes) sink result → IsGiven (Answers words bytes) sink result
+given_to_words command words bytes sink result is takes given =
     let Given : Option Command → Type 0 = λ command. IsGiven (AnswersCommand command bytes) sink result in
-    subst Given (sym is) (rw same at given)
+    subst Given (sym is)
+    (given_as (AnswersText command bytes) (AnswersAsked command bytes) sink result (λ status text answers. text_to_asked command bytes status text (command_takes_input words command is takes) answers) given)

@@ -1,6 +1,8 @@
 pub mod PlanLines
+pub mod Input
 pub mod SomeAnswers
 pub mod Outcomes
 pub mod GivenAnswers
 pub mod Endings
+pub mod LoadEndings
 pub mod LiveScenes

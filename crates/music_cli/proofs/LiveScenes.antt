@@ -1,21 +1,25 @@
 -- Where a command is done, the scene is live.
-use Rattle.std.proofs.Common.{◌≡◌, ℕ, ◌≤◌, List, Option, Some, None, true, Ok, Err, refl, sym, ap, ◌∙◌, inl, inr, arith}
-use Rattle.std.specs.Prelude.{Result, IfOk, is_some}
+use Rattle.std.proofs.Common.{◌≡◌, ℕ, ◌≤◌, List, Option, Some, None, true, false, Ok, Err, refl, sym, ap, ◌∙◌, inl, inr, arith}
+use Rattle.std.specs.Prelude.{Result, IfOk}
+use Rattle.std.specs.Option.{option_map_or}
 use Rattle.config_text.specs.declared.config.Config.{Config}
 use Rattle.config_text.proofs.SpelledLaws.{spelled_lawful}
 use Rattle.scene_model.specs.Faults.{IsFaultless}
+use Rattle.scene_model.specs.Waits.{IsAccepted}
 use Rattle.scene_model.specs.declared.scene.Scene.{Scene}
 use Rattle.scene_model.proofs.AcceptedOrReportable.{accepted_is_live}
 use Rattle.music_setup.specs.Scenes.{scene_of}
 use Rattle.music_setup.specs.Setups.{SpellsScene}
 use Rattle.music_setup.specs.declared.fault.SetupFault.{SetupFault}
 use Rattle.music_setup.specs.declared.fault.SetupFault.TheVariants as setup
-use Rattle.music_cli.specs.Words.{command_of}
-use Rattle.music_cli.specs.Answers.{AnswersCommand, AnswersOf, AnswersScene, AnswersText, HasLiveLimits, number_of, status_of}
+use Rattle.scene_make.specs.Made.{made}
+use Rattle.command_words.specs.Words.{command_of}
+use Rattle.command_words.specs.declared.command.Command.{Command}
+use Rattle.music_cli.specs.Words.{takes_input}
+use Rattle.music_cli.specs.Answers.{AnswersCommand, AnswersOf, AnswersScene, AnswersText, HasLiveLimits, MakesLive, number_of, status_of}
 use Rattle.music_cli.specs.Clauses.{Ends, read_part, Ended, IsLiveWhenDone}
-use Rattle.music_cli.specs.declared.command_line.Command.{Command}
 use Rattle.music_cli.specs.declared.status.Status.{Status}
-use Rattle.music_cli.proofs.SomeAnswers.{lawful_is_faultless}
+use Rattle.music_cli.proofs.SomeAnswers.{asked_to_text, lawful_is_faultless}
 use Rattle.music_cli.proofs.Endings.{has_answer}
 
 no_fault_done : (fault : SetupFault) → number_of (status_of fault) ≡ 0 → ⊥
@@ -50,13 +54,18 @@ text_live command bytes status text answers done = elim answers [
       (live.0, (right.0, right.1, live.1), live.2)
 ]
 
-command_live : (command : Option Command) (bytes : List ℕ) (status : Status) (text : List ℕ) → is_some command ≡ true → AnswersCommand command bytes status text → number_of status ≡ 0 → SpellsLive bytes
-command_live None bytes status text some answers done = absurd cc
-command_live (Some command) bytes status text some answers done = text_live command bytes status text answers done
+command_live : (command : Option Command) (bytes : List ℕ) (status : Status) (text : List ℕ) → option_map_or takes_input command false ≡ true → AnswersCommand command bytes status text → number_of status ≡ 0
+    → SpellsLive bytes
+command_live None bytes status text takes answers done = absurd cc
+command_live (Some command) bytes status text takes answers done = text_live command bytes status text (asked_to_text command bytes status text takes answers) done
 
 pub is_live : (words : List (List ℕ)) (source sink : Ends) (status : Status) → Ended words source sink status → IsLiveWhenDone words source (number_of status)
-is_live words source sink status ended all accepted is done =
+is_live words source sink status ended all takes is done =
     let small : number_of status ≤ 5 = omega (arith, done) in
     let answer = has_answer words source sink status ended all is small in
     let same : number_of status ≡ number_of answer.0 = answer.2 in
-    command_live (command_of words) (read_part all) answer.0 answer.1 accepted answer.3 (sym same ∙ done)
+    command_live (command_of words) (read_part all) answer.0 answer.1 takes answer.3 (sym same ∙ done)
+
+-- an accepted scene that is made from a number is live
+pub made_live : (number : ℕ) (scene : Scene) → scene_of (made number) ≡ Ok scene → IsFaultless scene → IsAccepted scene → MakesLive number
+made_live number scene makes faultless accepted = (scene, makes, accepted_is_live scene faultless accepted)

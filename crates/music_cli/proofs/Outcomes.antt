@@ -1,13 +1,16 @@
 -- Which outcomes can come to a command.
 use Rattle.std.proofs.Common.{◌≡◌, ℕ, Bool, true, false, List, Option, Some, None, Ok, Err, refl, ap, ◌∙◌, inl, inr, arith}
 use Rattle.std.specs.Prelude.{◌≢◌, Result, is_some}
+use Rattle.std.specs.Option.{option_map_or}
 use Rattle.config_text.specs.declared.config.Config.{Config}
 use Rattle.scene_model.specs.declared.scene.Scene.{Scene}
 use Rattle.music_setup.specs.Scenes.{scene_of}
 use Rattle.music_setup.specs.declared.fault.SetupFault.{SetupFault}
 use Rattle.music_setup.specs.declared.fault.SetupFault.TheVariants as setup
-use Rattle.music_cli.specs.Answers.{AnswersOf, AnswersScene, AnswersText, AnswersCommand, can_end, ends_scene, number_of, status_of}
-use Rattle.music_cli.specs.declared.command_line.Command.{Command}
+use Rattle.command_words.specs.declared.command.Command.{Command}
+use Rattle.command_words.specs.declared.command.Command.TheVariants.{Check, Plan, Order, Run, Load}
+use Rattle.music_cli.specs.Words.{takes_input}
+use Rattle.music_cli.specs.Answers.{AnswersOf, AnswersScene, AnswersText, AnswersAsked, AnswersCommand, can_end, ends_command, ends_load, ends_scene, number_of, status_of}
 use Rattle.music_cli.specs.declared.status.Status.{Status}
 use Rattle.music_cli.specs.declared.status.Status.TheVariants.{Done, Usage, TextFault, SceneFault, CycleFault, ReadFault, WriteFault, NoMemory}
 
@@ -44,9 +47,17 @@ text_of_a_text command bytes status text answers = elim answers [
   | inr right ↦ scene_of_a_text command right.0 (scene_of right.0) status text right.2
 ]
 
+-- an answer of `load` can have it too
+asked_of_a_text : (command : Command) (bytes : List ℕ) (status : Status) (text : List ℕ) → AnswersAsked command bytes status text → is_of_a_text status ≡ true
+asked_of_a_text Check bytes status text answers = text_of_a_text Check bytes status text answers
+asked_of_a_text Plan bytes status text answers = text_of_a_text Plan bytes status text answers
+asked_of_a_text Order bytes status text answers = text_of_a_text Order bytes status text answers
+asked_of_a_text (Run workers) bytes status text answers = text_of_a_text (Run workers) bytes status text answers
+asked_of_a_text (Load number workers) bytes status text answers = ap is_of_a_text answers.3.0
+
 answer_of_a_text : (command : Option Command) (bytes : List ℕ) (status : Status) (text : List ℕ) → is_some command ≡ true → AnswersCommand command bytes status text → is_of_a_text status ≡ true
 answer_of_a_text None bytes status text some answers = absurd cc
-answer_of_a_text (Some command) bytes status text some answers = text_of_a_text command bytes status text answers
+answer_of_a_text (Some command) bytes status text some answers = asked_of_a_text command bytes status text answers
 
 -- ---- which outcomes can come to a command
 
@@ -61,21 +72,42 @@ scene_ends ReadFault is = absurd cc
 scene_ends WriteFault is = absurd cc
 scene_ends NoMemory is = refl
 
+asked_outcome : (command : Command) (bytes : List ℕ) (status : Status) (text : List ℕ) → AnswersAsked command bytes status text → ends_command command status ≡ true
+asked_outcome Check bytes status text answers = scene_ends status (text_of_a_text Check bytes status text answers)
+asked_outcome Plan bytes status text answers = scene_ends status (text_of_a_text Plan bytes status text answers)
+asked_outcome Order bytes status text answers = scene_ends status (text_of_a_text Order bytes status text answers)
+asked_outcome (Run workers) bytes status text answers = scene_ends status (text_of_a_text (Run workers) bytes status text answers)
+asked_outcome (Load number workers) bytes status text answers = ap ends_load answers.3.0
+
 pub answer_outcome : (command : Option Command) (bytes : List ℕ) (status : Status) (text : List ℕ) → AnswersCommand command bytes status text → can_end command status ≡ true
 answer_outcome None bytes status text answers = ap (can_end None) answers.0
-answer_outcome (Some command) bytes status text answers = scene_ends status (text_of_a_text command bytes status text answers)
+answer_outcome (Some command) bytes status text answers = asked_outcome command bytes status text answers
 
+-- a write fault and want of memory can come to each
 pub write_fault_outcome : (command : Option Command) → can_end command WriteFault ≡ true
 write_fault_outcome None = refl
-write_fault_outcome (Some command) = refl
+write_fault_outcome (Some Check) = refl
+write_fault_outcome (Some Plan) = refl
+write_fault_outcome (Some Order) = refl
+write_fault_outcome (Some (Run workers)) = refl
+write_fault_outcome (Some (Load number workers)) = refl
 
-pub read_fault_outcome : (command : Option Command) → is_some command ≡ true → can_end command ReadFault ≡ true
-read_fault_outcome None some = absurd cc
-read_fault_outcome (Some command) some = refl
+pub memory_outcome : (command : Option Command) → can_end command NoMemory ≡ true
+memory_outcome None = refl
+memory_outcome (Some Check) = refl
+memory_outcome (Some Plan) = refl
+memory_outcome (Some Order) = refl
+memory_outcome (Some (Run workers)) = refl
+memory_outcome (Some (Load number workers)) = refl
 
-pub memory_outcome : (command : Option Command) → is_some command ≡ true → can_end command NoMemory ≡ true
-memory_outcome None some = absurd cc
-memory_outcome (Some command) some = refl
+-- a read fault to those that take input
+pub read_fault_outcome : (command : Option Command) → option_map_or takes_input command false ≡ true → can_end command ReadFault ≡ true
+read_fault_outcome None takes = absurd cc
+read_fault_outcome (Some Check) takes = refl
+read_fault_outcome (Some Plan) takes = refl
+read_fault_outcome (Some Order) takes = refl
+read_fault_outcome (Some (Run workers)) takes = refl
+read_fault_outcome (Some (Load number workers)) takes = absurd cc
 
 pub usage_outcome : (command : Option Command) → is_some command ≡ false → can_end command Usage ≡ true
 usage_outcome None none = refl

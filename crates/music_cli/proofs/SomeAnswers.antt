@@ -1,6 +1,7 @@
 -- Each words and bytes have an answer, and what can be done is done.
 use Rattle.std.proofs.Common.{◌≡◌, ◌&&◌, ℕ, true, false, List, [], Option, Some, None, Ok, Err, refl, sym, subst, ◌∙◌, inl, inr}
 use Rattle.std.specs.Prelude.{Result, IfOk, is_some}
+use Rattle.std.specs.Option.{option_map_or}
 use Rattle.std.proofs.lemmas.Bool.{and_parts}
 use Rattle.config_text.specs.Canon.{is_lawful_config}
 use Rattle.config_text.specs.Lawful.{are_links, are_sections, are_settings}
@@ -22,10 +23,12 @@ use Rattle.music_setup.specs.Texts.{text_of_fault}
 use Rattle.music_setup.specs.declared.fault.SetupFault.{SetupFault}
 use Rattle.music_setup.specs.declared.fault.SetupFault.TheVariants as setup
 use Rattle.music_setup.proofs.Faultless.{scene_is_faultless}
+use Rattle.made_laws.proofs.Accepted.{makes_accepted}
+use Rattle.command_words.specs.declared.command.Command.{Command}
+use Rattle.command_words.specs.declared.command.Command.TheVariants.{Check, Plan, Order, Run, Load}
+use Rattle.music_cli.specs.Words.{takes_input}
 use Rattle.music_cli.specs.PlanTexts.{plan_text}
-use Rattle.music_cli.specs.Answers.{AnswersOf, AnswersScene, AnswersConfig, AnswersText, AnswersCommand, CanDo, Writes, status_of, usage_text, ok_text}
-use Rattle.music_cli.specs.declared.command_line.Command.{Command}
-use Rattle.music_cli.specs.declared.command_line.Command.TheVariants.{Check, Plan, Order, Run}
+use Rattle.music_cli.specs.Answers.{AnswersOf, AnswersScene, AnswersConfig, AnswersText, AnswersMade, AnswersAsked, AnswersCommand, CanDo, Writes, status_of, usage_text, load_text, ok_text}
 use Rattle.music_cli.specs.declared.status.Status.{Status}
 use Rattle.music_cli.specs.declared.status.Status.TheVariants.{Done, Usage, TextFault, CycleFault}
 
@@ -41,7 +44,8 @@ some_text Order scene faultless accepted =
     let live = accepted_is_live scene faultless accepted in
     let order = can_finish scene live.0 live.2 [] (live.2.one_each, tt) in
     (order_text scene order.0, (live.0, live.1, order.0, record { lawful = order.1; finished = order.2 }, refl))
-some_text Run scene faultless accepted = (log_of scene, refl)
+some_text (Run workers) scene faultless accepted = (log_of scene, refl)
+some_text (Load number workers) scene faultless accepted = (load_text number scene, refl)
 
 answer_of : (command : Command) (scene : Scene) → IsFaultless scene → (status : Status) × (text : List ℕ) × AnswersOf command scene status text
 answer_of command scene faultless = elim (accepted_or_reportable scene faultless) [
@@ -79,14 +83,42 @@ text_answer command bytes = elim (some_reading bytes) [
   | inr faulty ↦ (TextFault, text_of_fault None (setup.Text faulty.0 faulty.1), inl (faulty.0, faulty.1, faulty.2, (refl, refl)))
 ]
 
+-- each number makes an accepted scene
+pub made_answer : (number workers : ℕ) → (status : Status) × (text : List ℕ) × AnswersMade number workers status text
+made_answer number workers =
+    let makes = makes_accepted number in
+    (Done, load_text number makes.0, (makes.0, makes.1, makes.2, (refl, refl)))
+
+asked_answer : (command : Command) (bytes : List ℕ) → (status : Status) × (text : List ℕ) × AnswersAsked command bytes status text
+asked_answer Check bytes = text_answer Check bytes
+asked_answer Plan bytes = text_answer Plan bytes
+asked_answer Order bytes = text_answer Order bytes
+asked_answer (Run workers) bytes = text_answer (Run workers) bytes
+asked_answer (Load number workers) bytes = made_answer number workers
+
 -- each words and bytes have an answer
 pub some_answer : (command : Option Command) (bytes : List ℕ) → (status : Status) × (text : List ℕ) × AnswersCommand command bytes status text
 some_answer None bytes = (Usage, usage_text, (refl, refl))
-some_answer (Some command) bytes = text_answer command bytes
+some_answer (Some command) bytes = asked_answer command bytes
 
 pub usage_answer : (command : Option Command) (bytes : List ℕ) → is_some command ≡ false → AnswersCommand command bytes Usage usage_text
 usage_answer None bytes none = (refl, refl)
 usage_answer (Some command) bytes none = absurd cc
+
+-- a command that takes input answers to it
+pub asked_to_text : (command : Command) (bytes : List ℕ) (status : Status) (text : List ℕ) → takes_input command ≡ true → AnswersAsked command bytes status text → AnswersText command bytes status text
+asked_to_text Check bytes status text takes answers = answers
+asked_to_text Plan bytes status text takes answers = answers
+asked_to_text Order bytes status text takes answers = answers
+asked_to_text (Run workers) bytes status text takes answers = answers
+asked_to_text (Load number workers) bytes status text takes answers = absurd cc
+
+pub text_to_asked : (command : Command) (bytes : List ℕ) (status : Status) (text : List ℕ) → takes_input command ≡ true → AnswersText command bytes status text → AnswersAsked command bytes status text
+text_to_asked Check bytes status text takes answers = answers
+text_to_asked Plan bytes status text takes answers = answers
+text_to_asked Order bytes status text takes answers = answers
+text_to_asked (Run workers) bytes status text takes answers = answers
+text_to_asked (Load number workers) bytes status text takes answers = absurd cc
 
 -- ---- what can be done is done
 
@@ -113,6 +145,7 @@ text_done command bytes status text scene spells accepted answers = elim answers
       scene_done command right.0 (scene_of right.0) status text scene (subst (λ (config : Config). scene_of config ≡ Ok scene) same spells.2) accepted right.2
 ]
 
-pub command_done : (command : Option Command) (bytes : List ℕ) (status : Status) (text : List ℕ) → is_some command ≡ true → CanDo bytes → AnswersCommand command bytes status text → status ≡ Done
-command_done None bytes status text some can answers = absurd cc
-command_done (Some command) bytes status text some can answers = text_done command bytes status text can.0 can.1 can.2 answers
+pub command_done : (command : Option Command) (bytes : List ℕ) (status : Status) (text : List ℕ) → option_map_or takes_input command false ≡ true → CanDo bytes
+    → AnswersCommand command bytes status text → status ≡ Done
+command_done None bytes status text takes can answers = absurd cc
+command_done (Some command) bytes status text takes can answers = text_done command bytes status text can.0 can.1 can.2 (asked_to_text command bytes status text takes answers)

@@ -2,7 +2,7 @@
 ghost use Rattle.std.specs.Prelude.{◌≡◌, IfOk};
 ghost use Rattle.music_cli.specs.Answers.{ok_text, AnswersDone};
 ghost use Rattle.music_cli.specs.Clauses.{ends, IsGiven};
-ghost use Rattle.music_cli.specs.declared.command_line.Command.TheVariants.{Check};
+ghost use Rattle.command_words.specs.declared.command.Command.TheVariants.{Check};
 
 use crate::Status;
 use crate::saying::say;

@@ -3,7 +3,7 @@
 
 mod answering;
 mod checking;
-mod command_line;
+mod loading;
 mod ordering;
 mod plan_text;
 mod planning;
@@ -12,6 +12,5 @@ mod saying;
 mod status;
 mod top;
 
-pub use command_line::{Command, command_of};
 pub use status::Status;
 pub use top::{music, music_alone};

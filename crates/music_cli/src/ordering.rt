@@ -1,7 +1,7 @@
 //! The command `order`.
 ghost use Rattle.music_cli.specs.Answers.{AnswersDone};
 ghost use Rattle.music_cli.specs.Clauses.{ends, IsGiven};
-ghost use Rattle.music_cli.specs.declared.command_line.Command.TheVariants.{Order};
+ghost use Rattle.command_words.specs.declared.command.Command.TheVariants.{Order};
 
 use crate::Status;
 use act_orders::order_to_sink;

@@ -1,7 +1,7 @@
 //! The command `plan`.
 ghost use Rattle.music_cli.specs.Answers.{AnswersDone};
 ghost use Rattle.music_cli.specs.Clauses.{ends, IsGiven};
-ghost use Rattle.music_cli.specs.declared.command_line.Command.TheVariants.{Plan};
+ghost use Rattle.command_words.specs.declared.command.Command.TheVariants.{Plan};
 
 use crate::Status;
 use crate::plan_text::plan_text;

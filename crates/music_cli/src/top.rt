@@ -1,11 +1,14 @@
 //! The two top calls.
-ghost use Rattle.std.specs.Prelude.{◌≡◌, ℕ, List, Some};
-ghost use Rattle.music_cli.specs.Words.{command_of, texts};
+ghost use Rattle.std.specs.Prelude.{◌≡◌, ℕ, List, Some, true};
+ghost use Rattle.command_words.specs.Commands.{IsWithinLimits};
+ghost use Rattle.command_words.specs.Words.{command_of, texts};
+ghost use Rattle.music_cli.specs.Words.{take_input};
 ghost use Rattle.music_cli.specs.Clauses.{ends, Ended, ReadsNoMore, TopClauses};
 
-use crate::answering::answer_text;
+use crate::Status;
+use crate::answering::{answer_made, answer_text};
 use crate::saying::{read_fault_text, say, usage_text};
-use crate::{Command, Status, command_of};
+use command_words::{Command, command_of};
 use music_base::{Gate, MOST_READ, ReadFault, Sink, Source, read_all};
 use std::alloc::Global;
 use std::sync::Wait;
@@ -19,6 +22,7 @@ fn follow<S: Source, K: Sink>(
     sink: &mut K,
 ) -> Status
     ensures ended { (words : List (List ℕ)) → command_of words ≡ Some command →
+        take_input words ≡ true →
         Ended words (ends S.left S.faults source.old source.new) (ends K.taken K.faults sink.old sink.new) result }
     ensures no_more { ReadsNoMore (ends S.left S.faults source.old source.new) }
 {
@@ -26,6 +30,19 @@ fn follow<S: Source, K: Sink>(
         Ok(bytes) => answer_text(alloc, command, bytes, sink),
         Err(ReadFault::Source) => say(sink, Status::ReadFault, read_fault_text()),
         Err(ReadFault::Memory) => Status::NoMemory,
+    }
+}
+
+// Does what a command asks: with the scene that it makes itself, or with the text of the source.
+fn obey<S: Source, K: Sink>(alloc: Global, command: Command, source: &mut S, sink: &mut K) -> Status
+    requires { IsWithinLimits command }
+    ensures ended { (words : List (List ℕ)) → command_of words ≡ Some command →
+        Ended words (ends S.left S.faults source.old source.new) (ends K.taken K.faults sink.old sink.new) result }
+    ensures no_more { ReadsNoMore (ends S.left S.faults source.old source.new) }
+{
+    match command {
+        Command::Load { number, workers } => answer_made(alloc, number, workers, sink),
+        _ => follow(alloc, command, source, sink),
     }
 }
 
@@ -39,20 +56,26 @@ fn answer<S: Source, K: Sink>(
     ensures ended { Ended (texts words.now) (ends S.left S.faults source.old source.new) (ends K.taken K.faults sink.old sink.new) result }
     ensures no_more { ReadsNoMore (ends S.left S.faults source.old source.new) }
 {
-    match command_of(words) {
-        Some(command) => follow(alloc, command, source, sink),
+    let Ok(asked) = command_of(alloc, words) else {
+        return Status::NoMemory;
+    };
+    match asked {
+        Some(command) => obey(alloc, command, source, sink),
         None => say(sink, Status::Usage, usage_text()),
     }
 }
 
 /// Does all that the program does for one worker, and starts no thread.
 ///
-/// The words are those behind the program's name, and exactly the one word `check`, `plan`, `order` or `run` is accepted. The
-/// source is then read to its end, or one byte further than a text may be long. Written to the sink is what the command
-/// asks of the scene that the text describes: by `check` how many applications and connections it has, by `plan` how many
-/// blocks each connection keeps at most, by `order` a lawful order of acts after which every application is finished, by
-/// `run` its log. In its place each command writes the line of the first fault of the text, of the scene or of a
-/// connection, or where some cycle of the scene's waits is not covered, such a cycle.
+/// The words are those behind the program's name, of which `command_words::command_of` says which are accepted. For `check`,
+/// `plan`, `order` and `run` the source is then read to its end, or one byte further than a text may be long. Written to the
+/// sink is what the command asks of the scene that the text describes: by `check` how many applications and connections it
+/// has, by `plan` how many blocks each connection keeps at most, by `order` a lawful order of acts after which every
+/// application is finished, by `run` its log. In its place each of these writes the line of the first fault of the text, of
+/// the scene or of a connection, or where some cycle of the scene's waits is not covered, such a cycle.
+///
+/// `load` leaves the source alone. It runs the scene that `scene_make::make` makes from its number, and writes how many
+/// applications and connections that has, and how many rows and bytes its log.
 ///
 /// The answer is the program's exit status: 0 done, 2 wrong words, 3 a fault of the text, 4 a fault of the scene or of a
 /// connection, 5 a cycle of waits that is not covered, 6 the source failed, 7 the sink failed, 8 memory was not found. An

@@ -1,6 +1,6 @@
 use Rattle.std.proofs.Common.{refl}
 use Rattle.music_cli.specs.Answers.{ok_text}
-use Rattle.music_cli.specs.declared.command_line.Command.TheVariants.{Check}
+use Rattle.command_words.specs.declared.command.Command.TheVariants.{Check}
 use Rattle.music_cli.proofs.GivenAnswers.{done_no_memory, done_said}
 use Rattle.music_cli.proofs.checking.check.Goals as goal
 

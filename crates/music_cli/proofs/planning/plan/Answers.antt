@@ -1,6 +1,6 @@
 use Rattle.std.proofs.Common.{refl}
 use Rattle.music_cli.specs.PlanTexts.{plan_text}
-use Rattle.music_cli.specs.declared.command_line.Command.TheVariants.{Plan}
+use Rattle.command_words.specs.declared.command.Command.TheVariants.{Plan}
 use Rattle.music_cli.proofs.GivenAnswers.{done_no_memory, done_said}
 use Rattle.music_cli.proofs.planning.plan.Goals as goal
 

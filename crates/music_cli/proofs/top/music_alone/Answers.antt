@@ -1,5 +1,6 @@
 use Rattle.music_cli.proofs.Endings.{answers_what_was_read, has_answer, has_prefix, is_complete, is_status, is_usage, not_usage, read_fault_cause, shows_faults, some_prefix, was_read, write_fault_cause}
 use Rattle.music_cli.proofs.LiveScenes.{is_live}
+use Rattle.music_cli.proofs.LoadEndings.{has_load}
 use Rattle.music_cli.proofs.top.music_alone.Goals as goal
 
 pub returns : goal.returns
@@ -16,6 +17,7 @@ returns g c =
       what_was_read_of_the_source = was_read _ _ _ _ ended;
       some_prefix = some_prefix _ _ _ _ ended;
       reads_no_more = c.answer-status.ensures.no_more;
+      load = has_load _ _ _ _ ended;
       answers = has_answer _ _ _ _ ended;
       prefix = has_prefix _ _ _ _ ended;
       completeness = is_complete _ _ _ _ ended;
