@@ -1,11 +1,10 @@
 -- What filter, map and flat_map give, and consecutive numbers.
-use Rattle.std.proofs.Common.{◌≡◌, ℕ, zero, suc, ◌+◌, ◌<◌, ◌≤◌, Bool, true, false, cond, not, ◌&&◌, nat_eq, nat_le, nat_lt, List, [], ◌∷◌, ◌++◌, length, get_or, map, refl, sym, ap, inl, inr, arith, add-zero, zero-add}
+use Rattle.std.proofs.Common.{◌≡◌, ℕ, zero, suc, ◌+◌, ◌<◌, ◌≤◌, Bool, true, false, cond, not, ◌&&◌, nat_eq, nat_le, nat_lt, List, [], ◌∷◌, ◌++◌, length, get_or, map, refl, sym, ap, inl, inr, ◌∙◌, arith, add-zero, zero-add}
 use Rattle.std.specs.Prelude.{◌==◌}
 use Rattle.std.specs.declared.cmp.Ordering.{Ordering}
 use Rattle.std.specs.Ordering.{is_gt}
 use Rattle.std.specs.List.{filter, flat_map, list_any, range_with_len, AllByRecursion}
-use Rattle.std.proofs.lemmas.Bool.{cases_Bool, cases_eq, cases_lt, eq-eqb, ne_eqb, and_parts, or_parts, not-true}
-use Rattle.std.proofs.lemmas.Bool.Decides.{nat_tests}
+use Rattle.std.proofs.lemmas.Bool.{cases_Bool, cases_eq, cases_lt, eq-eqb, le-leb, le-ltb, lt-leb, lt-ltb, ne_eqb, and_parts, or_parts, not-true}
 use Rattle.std.proofs.lemmas.List.{map-append}
 use Rattle.std.proofs.lemmas.List.Folds.{list_any-append}
 use Rattle.music_base.specs.Numbers.{all_differ, below, in_order, put_in_order}
@@ -151,8 +150,28 @@ filter-range_with_len_one p a (suc n) low high = elim (cases_eq a p) [
 
 -- a number is among consecutive ones where it lies between their ends
 pub list_any-range_with_len : (g a n : ℕ) → list_any (λ i. i == g) (range_with_len a n) ≡ (nat_le a g && nat_lt g (a + n))
-list_any-range_with_len g a zero = grind (arith, nat_tests)
-list_any-range_with_len g a (suc n) = rw (list_any-range_with_len g (a + 1) n) (grind (arith, nat_tests))
+list_any-range_with_len g a zero = elim (cases_lt g a) [
+  | inl before ↦ let none : nat_le a g ≡ false = lt-leb a g before in rw none refl
+  | inr from ↦
+      let none : nat_lt g (a + 0) ≡ false = le-ltb g (a + 0) (omega arith) in
+      let some : nat_le a g ≡ true = le-leb a g from in
+      rw (some, none) refl
+]
+list_any-range_with_len g a (suc n) = elim (cases_eq a g) [
+  | inl same ↦
+      let first : nat_eq a g ≡ true = eq-eqb a g same in
+      let low : nat_le a g ≡ true = le-leb a g (omega arith) in
+      let high : nat_lt g (a + suc n) ≡ true = lt-ltb g (a + suc n) (omega arith) in
+      rw (first, low, high) refl
+  | inr other ↦
+      let first : nat_eq a g ≡ false = ne_eqb a g other in
+      let end : a + 1 + n ≡ a + suc n = omega arith in
+      let low : nat_le (a + 1) g ≡ nat_le a g = elim (cases_lt a g) [
+        | inl lt ↦ le-leb (a + 1) g (omega arith) ∙ sym (le-leb a g (omega arith))
+        | inr le ↦ let lt : g < a = elim (cases_lt g a) [ inl lt ↦ lt | inr from ↦ absurd (other (omega arith)) ] in lt-leb (a + 1) g (omega arith) ∙ sym (lt-leb a g lt)
+      ] in
+      rw (first, list_any-range_with_len g (a + 1) n, end, low) refl
+]
 
 -- ---- map and flat_map
 
