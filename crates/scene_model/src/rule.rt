@@ -1,3 +1,5 @@
+ghost use Rattle.std.specs.Prelude.{◌≡◌, IfOk};
+
 use music_base::{Name, Nanos, NoMemory, Sample, TryCopy, Word};
 use std::alloc::Global;
 
@@ -73,6 +75,14 @@ pub enum Rule {
     },
 }
 
+/// The names of the input and of the output of a rule that has both.
+fn names(alloc: Global, input: &Name, output: &Name) -> Result<(Name, Name), NoMemory>
+    ensures { IfOk result (λ names. (names.0 ≡ input.now) × (names.1 ≡ output.now)) }
+{
+    let input = input.copy(alloc)?;
+    Ok((input, output.copy(alloc)?))
+}
+
 impl TryCopy for Rule {
     fn copy(&self, alloc: Global) -> Result<Rule, NoMemory> {
         Ok(match self {
@@ -97,12 +107,15 @@ impl TryCopy for Rule {
                 output,
                 shift,
                 after,
-            } => Rule::Pass {
-                input: input.copy(alloc)?,
-                output: output.copy(alloc)?,
-                shift: *shift,
-                after: *after,
-            },
+            } => {
+                let (input, output) = names(alloc, input, output)?;
+                Rule::Pass {
+                    input,
+                    output,
+                    shift: *shift,
+                    after: *after,
+                }
+            }
             Rule::SetValue { port, index, value } => Rule::SetValue {
                 port: port.copy(alloc)?,
                 index: *index,
@@ -125,26 +138,32 @@ impl TryCopy for Rule {
                 numerator,
                 denominator,
                 add,
-            } => Rule::CopyValues {
-                input: input.copy(alloc)?,
-                output: output.copy(alloc)?,
-                numerator: *numerator,
-                denominator: *denominator,
-                add: *add,
-            },
+            } => {
+                let (input, output) = names(alloc, input, output)?;
+                Rule::CopyValues {
+                    input,
+                    output,
+                    numerator: *numerator,
+                    denominator: *denominator,
+                    add: *add,
+                }
+            }
             Rule::When {
                 input,
                 index,
                 over,
                 output,
                 emitted,
-            } => Rule::When {
-                input: input.copy(alloc)?,
-                index: *index,
-                over: *over,
-                output: output.copy(alloc)?,
-                emitted: *emitted,
-            },
+            } => {
+                let (input, output) = names(alloc, input, output)?;
+                Rule::When {
+                    input,
+                    index: *index,
+                    over: *over,
+                    output,
+                    emitted: *emitted,
+                }
+            }
             Rule::Say {
                 port,
                 word,
@@ -160,11 +179,14 @@ impl TryCopy for Rule {
                 input,
                 output,
                 after,
-            } => Rule::Reply {
-                input: input.copy(alloc)?,
-                output: output.copy(alloc)?,
-                after: *after,
-            },
+            } => {
+                let (input, output) = names(alloc, input, output)?;
+                Rule::Reply {
+                    input,
+                    output,
+                    after: *after,
+                }
+            }
         })
     }
 }
