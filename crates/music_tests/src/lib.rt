@@ -29,3 +29,5 @@ mod scene_tables;
 mod tables;
 #[cfg(test)]
 mod texts;
+#[cfg(test)]
+mod words;

@@ -85,6 +85,14 @@ const CASES: &[Case<'static>] = &[
         ..FAULTY
     },
     Case {
+        words: &["run", "--workers", "1"],
+        ..RUN
+    },
+    Case {
+        words: &["run", "--workers=01"],
+        ..RUN
+    },
+    Case {
         words: &["run", "x"],
         ..REFUSED
     },

@@ -4,10 +4,10 @@ ghost use Rattle.std.specs.Prelude.{◌≤◌, ◌^◌};
 use crate::logs::{LOG, SCENE};
 use music_base::{AppId, MemorySink, NoMemory};
 use music_setup::setup;
-use run_logs::WriteFault;
+use run_logs::{LogSize, WriteFault};
 use scene_model::Act;
 use std::alloc::Global;
-use step_core::{run_alone, run_to_sink};
+use step_core::{run_alone, run_counted, run_to_sink};
 
 /// A spike each millisecond, for three steps.
 const SPIKES: &[u8] = b"stoptime=0.003
@@ -47,6 +47,14 @@ fn written(
     let mut sink = MemorySink::make(alloc, 1000, room)?;
     let fault = run_to_sink(alloc, ready.scene(), ready.plan(), &mut sink).err();
     Ok((sink, fault))
+}
+
+/// How large a run's log is counted.
+fn counted(alloc: Global, text: &[u8]) -> Result<LogSize, NoMemory> {
+    let Ok(ready) = setup(alloc, text) else {
+        return Err(NoMemory);
+    };
+    run_counted(alloc, ready.scene(), ready.plan())
 }
 
 /// How many acts a run did, and whether the last one was a step of this application.
@@ -91,6 +99,26 @@ fn a_long_run_writes_each_line(rt: HostRuntime) {
     assert!(rt; lines == 10_001);
     let last = b"\n9999000000,sink,in,event,0,3,3,9999500000,\n";
     assert!(rt; sink.taken().ends_with(last));
+}
+
+#[test]
+fn a_log_is_counted(rt: HostRuntime) {
+    let bytes = LOG.len() as u64;
+    assert!(rt; counted(rt.alloc(), SCENE) == Ok(LogSize { rows: 16, bytes }));
+}
+
+// The rows are more than are held at once.
+#[test]
+fn a_long_log_is_counted_as_it_is_written(rt: HostRuntime) {
+    let Ok((sink, _)) = written(rt.alloc(), MANY_SPIKES, 1_000_000) else {
+        panic!(rt; "the scene is run");
+    };
+    let bytes = sink.taken().len() as u64;
+    let size = LogSize {
+        rows: 10_000,
+        bytes,
+    };
+    assert!(rt; counted(rt.alloc(), MANY_SPIKES) == Ok(size));
 }
 
 // Each application has three steps, and each of three blocks is put and taken. The last step of the receiver needs all else.
