@@ -14,6 +14,8 @@ mod cycles;
 #[cfg(test)]
 mod logs;
 #[cfg(test)]
+mod machines;
+#[cfg(test)]
 mod made_configs;
 #[cfg(test)]
 mod maps;
