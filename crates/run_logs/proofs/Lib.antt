@@ -1,7 +1,6 @@
 pub mod PlainFields
 pub mod PlainTexts
 pub mod Batches
-pub mod Counts
 pub mod ReadyLines
 pub mod Tables
 pub mod Steps

@@ -4,9 +4,10 @@ ghost use Rattle.std.specs.List.{flat_map, list_all};
 ghost use Rattle.scene_model.specs.Logs.{header, is_writable, line_of};
 ghost use Rattle.run_logs.specs.QuickLines.{AreOfScene};
 
-use crate::batch::Batch;
+use crate::clock_text::ClockText;
 use crate::field_table::{FieldTable, fields_of_scene};
-use crate::writing::{BATCH, header};
+use crate::sizes::row_size;
+use crate::writing::header;
 use music_base::NoMemory;
 use scene_model::{Row, Scene};
 use std::alloc::Global;
@@ -40,12 +41,12 @@ fn counted_on(count: u64, more: usize) -> Result<u64, NoMemory>
     }
 }
 
-// Counts on by the bytes of the lines of the rows, which are made batch by batch.
+// Counts on by the bytes of the lines of the rows.
 fn count_lines(
     alloc: Global,
     scene: &Scene,
     table: &FieldTable,
-    lines: &mut Batch,
+    at: &mut ClockText,
     rows: &[Row],
     bytes: u64,
 ) -> Result<u64, NoMemory>
@@ -54,23 +55,19 @@ fn count_lines(
     ensures { IfOk result (λ sum. sum ≡ bytes + length (flat_map (line_of scene.now) rows.now)) }
 {
     let mut sum = bytes;
-    let mut rest = rows;
-    while !rest.is_empty() {
-        let (batch, later) = rest.split_at(rest.len().min(BATCH));
-        lines.fill(alloc, scene, table, batch)?;
-        sum = counted_on(sum, lines.text().len())?;
-        rest = later;
+    for row in rows {
+        sum = counted_on(sum, row_size(alloc, scene, table, at, row)?)?;
     }
     Ok(sum)
 }
 
-/// A log that is being counted: its lines are made as a [`LogWriter`](crate::LogWriter) makes them, and go nowhere.
+/// A log that is being counted: the sizes are those of the lines that a [`LogWriter`](crate::LogWriter) makes.
 ///
-/// Contracts see the fields of all ranks of the scene by which it makes lines.
+/// Contracts see the fields of all ranks of the scene by which it counts.
 #[derive(Drop)]
 pub struct LogCounter {
     table: FieldTable,
-    lines: Batch,
+    at: ClockText,
 }
 
 impl Model for LogCounter {
@@ -88,8 +85,10 @@ impl LogCounter {
         ensures { IfOk result (λ log. AreOfScene scene.now log) }
     {
         let table = fields_of_scene(alloc, scene)?;
-        let lines = Batch::make(alloc)?;
-        Ok(LogCounter { table, lines })
+        Ok(LogCounter {
+            table,
+            at: ClockText::of(0),
+        })
     }
 
     /// The size of a log with these rows more. Each row is of a port of the scene for which the counter was made, and a
@@ -109,7 +108,7 @@ impl LogCounter {
             more.bytes ≡ size.bytes + length (flat_map (line_of scene.now) rows.now)) }
     {
         let count = counted_on(size.rows, rows.len())?;
-        let bytes = count_lines(alloc, scene, &self.table, &mut self.lines, rows, size.bytes)?;
+        let bytes = count_lines(alloc, scene, &self.table, &mut self.at, rows, size.bytes)?;
         Ok(LogSize { rows: count, bytes })
     }
 }

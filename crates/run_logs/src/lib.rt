@@ -15,6 +15,7 @@ mod page;
 mod queue;
 mod quick_lines;
 mod ranks;
+mod sizes;
 mod writing;
 
 pub use clock_text::ClockText;

@@ -14,7 +14,7 @@ use std::alloc::Global;
 use std::marker::Model;
 
 // The rows whose lines are made and written together.
-pub(crate) const BATCH: usize = 1024;
+const BATCH: usize = 1024;
 
 /// Why a text was not written whole.
 #[derive(Clone, Copy, Debug, PartialEq, Eq)]
