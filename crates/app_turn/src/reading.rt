@@ -36,17 +36,19 @@ fn items_of_words(alloc: Global, words: &[Heard]) -> Result<Items<Item>, NoMemor
     Ok(items)
 }
 
-/// These values of these indices, in their order, as items.
+/// These values of these indices, in their order, as items, in the list in place of what it has.
 fn items_of_values(
-    alloc: Global,
     globals: &[u32],
     values: &[Sample],
+    list: Vec<Item>,
 ) -> Result<Items<Item>, NoMemory>
     requires { length values.now ≡ length globals.now }
     ensures { (f : ℕ → ℤ) → values.now ≡ map f globals.now →
         IfOk result (λ items. items ≡ map (λ g. Value g (f g)) globals.now) }
 {
-    let mut items = Vec::with_capacity(alloc, globals.len())?;
+    let mut items = list;
+    items.clear();
+    items.reserve(globals.len())?;
     for place in 0..globals.len() {
         items.push(Item::Value {
             global: globals[place],
@@ -56,19 +58,20 @@ fn items_of_values(
     Ok(Items::from_vec(items))
 }
 
-/// A value for each index, as an inbox reads it.
+/// A value for each index, as an inbox reads it, in the list in place of what it has.
 fn values_read(
     alloc: Global,
     inbox: &ContInbox,
     step: u64,
     globals: &[u32],
+    list: Vec<Item>,
 ) -> Result<Items<Item>, NoMemory>
     requires { step ≤ 1_000_000 }
     ensures { IfOk result (λ items. items ≡ map (λ g. Value g (read inbox.now step g)) globals.now) }
 {
     let mut values = vec![in alloc; Sample(0); globals.len()]?;
     inbox.values(step, globals, &mut values);
-    items_of_values(alloc, globals, &values)
+    items_of_values(globals, &values, list)
 }
 
 /// 0 for each index.
@@ -85,7 +88,7 @@ fn values_of_nothing(alloc: Global, globals: &[u32]) -> Result<Items<Item>, NoMe
     Ok(items)
 }
 
-/// What an input reads in a step, and nothing for an output. Events are read into the list, in place of what it has.
+/// What an input reads in a step, and nothing for an output. Events and values are read into the list, in place of what it has.
 fn read_port(
     alloc: Global,
     scene: &Scene,
@@ -118,7 +121,7 @@ fn read_port(
             let words = inbox.deliver(alloc, step)?;
             items_of_words(alloc, &words)
         }
-        PortInbox::Follows(inbox) => values_read(alloc, inbox, step, globals),
+        PortInbox::Follows(inbox) => values_read(alloc, inbox, step, globals, list),
     }
 }
 

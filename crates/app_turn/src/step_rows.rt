@@ -44,12 +44,16 @@ fn push_each_rank(
     Ok(())
 }
 
-/// Whether a port hears events whose indices are split over several ranks, so that each is of one rank at most.
+/// So many ranks are asked one after another, rather than that the arrivals are sorted by them first.
+const FEW_RANKS: u32 = 4;
+
+/// Whether a port hears events whose indices are split over many ranks, so that each is of one rank at most.
 fn splits_events(decl: &PortDecl) -> bool
     ensures { OnTrue result ((decl.now.direction ≡ Input) × (decl.now.kind ≡ Events)) }
 {
     match (decl.direction, decl.kind, &decl.map) {
-        (Direction::Input, PortKind::Events, PortMap::Split { span: _, ranks }) => 1 < *ranks,
+        (Direction::Input, PortKind::Events, PortMap::Split { span: _, ranks }) => FEW_RANKS
+            < *ranks,
         _ => false,
     }
 }
@@ -64,7 +68,7 @@ fn is_quiet(decl: &PortDecl, items: &[Item]) -> bool
     }
 }
 
-/// Adds what the ranks of a port get, rank by rank. Events that are split over ranks are sorted by them first, and where
+/// Adds what the ranks of a port get, rank by rank. Events that are split over many ranks are sorted by them first, and where
 /// nothing came no rank is asked.
 fn push_port(
     alloc: Global,
