@@ -54,6 +54,29 @@ fn emit_use(
     }
 }
 
+/// How many events or messages came to the input at a place.
+fn arrivals_at(inputs: &[Items<Item>], place: usize) -> usize {
+    let items = items_at(inputs, place);
+    match items.first() {
+        Some(Item::Event(_) | Item::Message(_)) => items.len(),
+        _ => 0,
+    }
+}
+
+/// How many items uses are likely to emit: one for each arrival that they read, and one more. So room is asked for once, and
+/// none where nothing came. Nothing rests on it.
+fn likely_count(inputs: &[Items<Item>], uses: &[RuleUse]) -> usize {
+    let mut count = 0usize;
+    for part in uses {
+        count = count.saturating_add(arrivals_at(inputs, part.input));
+    }
+    if count == 0 {
+        0
+    } else {
+        count.saturating_add(1)
+    }
+}
+
 /// The items of an event or message output.
 fn emitted_items(
     alloc: Global,
@@ -66,7 +89,8 @@ fn emitted_items(
     requires placed { AllByRecursion (IsPlaced step.now.rules.now step.now.inputs.now []) uses.now }
     ensures { IfOk result (λ items. items ≡ flat_map (use_emits (seen step.now) output.now) uses.now) }
 {
-    let mut items = Items::new(alloc);
+    let room = Vec::with_capacity(alloc, likely_count(step.inputs, uses))?;
+    let mut items = Items::from_vec(room);
     for part in uses {
         emit_use(alloc, &mut items, step, output, *part)?;
     }
