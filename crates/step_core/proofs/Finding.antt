@@ -52,13 +52,14 @@ module _ (scene : Scene) (limits : List ℕ) (s : Counts) (released : List ℕ) 
   found None can no_link no_app = all_done no_link (no_app refl)
   found (Some act) can no_link no_app = can
 
-pub lawful-more : (scene : Scene) (limits : List ℕ) (acts : List Act) (act : Act) (s : Counts) → IsLawfulFrom scene limits s acts → IsAllowed scene limits (after_all s acts) act → IsLawfulFrom scene limits s (acts ++ act ∷ [])
-lawful-more scene limits [] act s lawful can = (can, tt)
-lawful-more scene limits (x ∷ xs) act s lawful can = (lawful.0, lawful-more scene limits xs act (after s x) lawful.1 can)
+-- one order behind another
+pub lawful_join : (scene : Scene) (limits : List ℕ) (s : Counts) (acts more : List Act) → IsLawfulFrom scene limits s acts → IsLawfulFrom scene limits (after_all s acts) more → IsLawfulFrom scene limits s (acts ++ more)
+lawful_join scene limits s [] more lawful then = then
+lawful_join scene limits s (act ∷ acts) more lawful then = (lawful.0, lawful_join scene limits (after s act) acts more lawful.1 then)
 
-pub after-more : (acts : List Act) (act : Act) (s : Counts) → after_all s (acts ++ act ∷ []) ≡ after (after_all s acts) act
-after-more [] act s = refl
-after-more (x ∷ xs) act s = after-more xs act (after s x)
+pub after_join : (s : Counts) (acts more : List Act) → after_all s (acts ++ more) ≡ after_all (after_all s acts) more
+after_join s [] more = refl
+after_join s (act ∷ acts) more = after_join (after s act) acts more
 
 -- one act more, and one less to do
 module _ (scene : Scene) (limits : List ℕ) (acts : List Act) (core next : CoreView) (act : Act) (so_far : IsAfter scene limits acts core) (can : Can core act) (is : next ≡ did core act) where
@@ -72,8 +73,8 @@ module _ (scene : Scene) (limits : List ℕ) (acts : List Act) (core next : Core
   after_act_is = record {
     is_scene = ap (λ (x : CoreView). x.scene) is ∙ so_far.is_scene;
     are_limits = ap (λ (x : CoreView). x.limits) is ∙ so_far.are_limits;
-    lawful = (so_far.lawful.0, lawful-more scene limits acts act (opening_counts scene) so_far.lawful.1 can-here);
-    are_counts = ap (λ (x : CoreView). x.counts) is ∙ ap (λ (x : Counts). after x act) so_far.are_counts ∙ sym (after-more acts act (opening_counts scene));
+    lawful = (so_far.lawful.0, lawful_join scene limits (opening_counts scene) acts (act ∷ []) so_far.lawful.1 (can-here, tt));
+    are_counts = ap (λ (x : CoreView). x.counts) is ∙ ap (λ (x : Counts). after x act) so_far.are_counts ∙ sym (after_join (opening_counts scene) acts (act ∷ []));
   }
 
   pub one_less_left : left_of core.scene core.counts ≡ left_of next.scene next.counts + 1

@@ -1,5 +1,6 @@
 pub mod Ends
 pub mod Finding
+pub mod Going
 pub mod Histories
 pub mod Opening
 pub mod Owning

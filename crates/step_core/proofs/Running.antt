@@ -1,5 +1,5 @@
 -- Steps of a run, and what was written of its log.
-use Rattle.std.proofs.Common.{ℕ, ◌<◌, ◌≡◌, true, false, ◌&&◌, arith, refl, sym, ◌∙◌, ap, subst, List, [], ◌++◌, length, append-nil, append_assoc}
+use Rattle.std.proofs.Common.{ℕ, ◌<◌, ◌≤◌, ◌≡◌, true, false, ◌&&◌, arith, refl, sym, ◌∙◌, ap, subst, List, [], ◌∷◌, ◌++◌, length, append-nil, append_assoc}
 use Rattle.std.specs.Prelude.{Err, Ok, OnOk, Option, Result, is_err}
 use Rattle.std.specs.List.{flat_map, list_all}
 use Rattle.std.proofs.lemmas.Bool.{and_parts}
@@ -10,7 +10,7 @@ use Rattle.music_base.proofs.Transfers.{Took-append, TookPrefix-front, TookPrefi
 use Rattle.scene_model.specs.Faults.{IsFaultless}
 use Rattle.scene_model.specs.Lives.{history}
 use Rattle.scene_model.specs.Logs.{header, is_writable, line_of, log_of, rows, text_of}
-use Rattle.scene_model.specs.Orders.{AllFinished, Counts}
+use Rattle.scene_model.specs.Orders.{AllFinished, Counts, after, after_all}
 use Rattle.scene_model.specs.declared.act.Act.{Act}
 use Rattle.scene_model.specs.declared.row.Row.{Row}
 use Rattle.scene_model.specs.declared.scene.Scene.{Scene}
@@ -18,7 +18,7 @@ use Rattle.scene_model.proofs.Finish.{left_of}
 use Rattle.scene_model.proofs.WrittenLives.{history_written}
 use Rattle.scene_model.proofs.WrittenRows.{rows_writable}
 use Rattle.step_core.specs.Cores.{BeginsLog, Can, CoreView, IsAfter, IsDone, Released, did, opened, rows_out, rows_so_far}
-use Rattle.step_core.specs.Running.{HasRun, IsRunning, text_out}
+use Rattle.step_core.specs.Running.{AreDone, HasRun, IsRunning, WentOn, text_out}
 use Rattle.step_core.proofs.Finding.{after_act_is, one_less_left}
 use Rattle.step_core.proofs.Releases.{all_held_at_end, begins_opened, none_opened}
 
@@ -47,40 +47,59 @@ held_when_done scene limits acts core done kept =
     ∙ ap (λ (x : List ℕ). record { scene = scene; limits = limits; counts = core.counts; released = x }) kept in
     ap rows_so_far is ∙ all_held_at_end scene limits core.counts done.finished
 
-same_out : (core : CoreView) (act : Act) → rows_out (did core act) ≡ rows_out core
+same_out : (core : CoreView) (s : Counts) → rows_out (record core { counts = s }) ≡ rows_out core
 unfolding rows_out
-same_out core act = refl
+same_out core s = refl
+
+-- one act of a run
+module _ (scene : Scene) (limits : List ℕ) (core : CoreView) (run : IsRunning scene limits core) (act : Act) (can : Can core act) where
+  act_runs : IsRunning scene limits (did core act)
+  act_runs = record {
+    order = _;
+    is_after = after_act_is scene limits run.order core (did core act) act run.is_after can refl;
+    begins = let begins : BeginsLog core = run.begins in (begins.0, ap (λ (l : List Row). l ++ begins.0) (same_out core (after core.counts act)) ∙ begins.1);
+  }
+
+  act_less : left_of core.scene (after core.counts act) < left_of core.scene core.counts
+  act_less = let one = one_less_left scene limits run.order core (did core act) act run.is_after can refl in omega (arith, one)
+
+-- some acts of a run
+module _ (scene : Scene) (limits : List ℕ) where
+  runs_along : (acts : List Act) (core next : CoreView) → IsRunning scene limits core → AreDone core acts next → IsRunning scene limits next
+  runs_along [] core next run is = subst (IsRunning scene limits) (sym is.is) run
+  runs_along (act ∷ acts) core next run is = runs_along acts (did core act) next (act_runs scene limits core run act is.lawful.0) (record { lawful = is.lawful.1; is = is.is })
+
+  left_along : (acts : List Act) (core next : CoreView) → IsRunning scene limits core → AreDone core acts next → left_of next.scene next.counts ≤ left_of core.scene core.counts
+  left_along [] core next run is = let same = ap (λ (x : CoreView). left_of x.scene x.counts) is.is in omega (arith, same)
+  left_along (act ∷ acts) core next run is =
+      let rest = left_along acts (did core act) next (act_runs scene limits core run act is.lawful.0) (record { lawful = is.lawful.1; is = is.is }) in
+      omega (arith, rest, act_less scene limits core run act is.lawful.0)
 
 module _ (scene : Scene) (limits : List ℕ) (core next : CoreView) (run : IsRunning scene limits core) where
-  module _ (act : Act) (can : Can core act) (is : next ≡ did core act) where
-    -- an act hands out no rows
+  -- an act, and others behind it
+  module _ (act : Act) (can : Can core act) (went : WentOn (did core act) next) where
+    -- hand out no rows
     pub out_stays : rows_out next ≡ rows_out core
-    out_stays = ap rows_out is ∙ same_out core act
+    out_stays = ap rows_out went.1.is ∙ same_out core (after_all (after core.counts act) went.0)
 
     pub text_stays : text_out next ≡ text_out core
-    text_stays = ap (λ (s : Scene). text_of s (rows_out next)) (ap (λ (x : CoreView). x.scene) is) ∙ ap (text_of core.scene) out_stays
+    text_stays = ap (λ (s : Scene). text_of s (rows_out next)) (ap (λ (x : CoreView). x.scene) went.1.is) ∙ ap (text_of core.scene) out_stays
 
-    pub act_took : (before after : Option (List ℕ)) → Took before (text_out core) after → Took before (text_out next) after
-    act_took before after took = subst (λ (l : List ℕ). Took before l after) (sym text_stays) took
+    pub turn_took : (before after : Option (List ℕ)) → Took before (text_out core) after → Took before (text_out next) after
+    turn_took before after took = subst (λ (l : List ℕ). Took before l after) (sym text_stays) took
 
-    -- and leaves less to do
-    pub act_less : left_of next.scene next.counts < left_of core.scene core.counts
-    act_less = let one = one_less_left scene limits run.order core next act run.is_after can is in omega (arith, one)
+    -- and leave less to do
+    pub turn_less : left_of next.scene next.counts < left_of core.scene core.counts
+    turn_less = omega (arith, left_along scene limits went.0 (did core act) next (act_runs scene limits core run act can) went.1, act_less scene limits core run act can)
 
     -- also after a release
     pub release_less : (last : CoreView) (handed : List Row) → Released next handed last → left_of last.scene last.counts < left_of core.scene core.counts
     release_less last handed released =
         let same : left_of last.scene last.counts ≡ left_of next.scene next.counts = ap (λ (x : Scene). left_of x last.counts) released.same_scene ∙ ap (left_of next.scene) released.same_counts in
-        subst (λ n. n < left_of core.scene core.counts) (sym same) act_less
+        subst (λ n. n < left_of core.scene core.counts) (sym same) turn_less
 
-    pub act_runs : IsRunning scene limits next
-    act_runs = record {
-      order = _;
-      is_after = after_act_is scene limits run.order core next act run.is_after can is;
-      begins =
-          let begins : BeginsLog core = run.begins in
-          (begins.0, ap (λ (l : List Row). l ++ begins.0) out_stays ∙ begins.1 ∙ sym (ap (λ (s : Scene). rows s (history s)) (ap (λ (x : CoreView). x.scene) is)));
-    }
+    pub turn_runs : IsRunning scene limits next
+    turn_runs = runs_along scene limits went.0 (did core act) next (act_runs scene limits core run act can) went.1
 
   -- a release leaves the order as it is
   pub release_runs : (handed : List Row) → Released core handed next → IsRunning scene limits next

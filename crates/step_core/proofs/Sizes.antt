@@ -10,7 +10,7 @@ use Rattle.scene_model.specs.declared.row.Row.{Row}
 use Rattle.scene_model.specs.declared.scene.Scene.{Scene}
 use Rattle.run_logs.specs.declared.counting.LogSize.{LogSize}
 use Rattle.step_core.specs.Cores.{Can, CoreView, Released, did, opened, rows_out}
-use Rattle.step_core.specs.Running.{IsRunning, IsSizeOut, text_out}
+use Rattle.step_core.specs.Running.{IsRunning, IsSizeOut, WentOn, text_out}
 use Rattle.step_core.proofs.Releases.{none_opened}
 use Rattle.step_core.proofs.Running.{out_stays, text_all, text_more, text_opened, text_stays}
 
@@ -21,12 +21,12 @@ opened_size scene limits core size is none bytes = record {
   text = bytes ∙ sym (ap length (text_opened scene limits core is));
 }
 
--- an act hands out nothing
-pub act_size : (scene : Scene) (limits : List ℕ) (core next : CoreView) (run : IsRunning scene limits core) (act : Act) → Can core act → next ≡ did core act
+-- acts hand out nothing
+pub turn_size : (scene : Scene) (limits : List ℕ) (core next : CoreView) (run : IsRunning scene limits core) (act : Act) → Can core act → WentOn (did core act) next
     → (size : LogSize) → IsSizeOut core size → IsSizeOut next size
-act_size scene limits core next run act can is size so_far = record {
-  count = so_far.count ∙ sym (ap length (out_stays scene limits core next run act can is));
-  text = so_far.text ∙ sym (ap length (text_stays scene limits core next run act can is));
+turn_size scene limits core next run act can went size so_far = record {
+  count = so_far.count ∙ sym (ap length (out_stays scene limits core next run act can went));
+  text = so_far.text ∙ sym (ap length (text_stays scene limits core next run act can went));
 }
 
 module _ (scene : Scene) (core next : CoreView) (of : core.scene ≡ scene) (handed : List Row) (is : Released core handed next) where

@@ -2,6 +2,7 @@
 use Rattle.std.specs.Prelude.{◌≡◌, ℕ, List, length}
 use Rattle.scene_model.specs.Lives.{history}
 use Rattle.scene_model.specs.Logs.{rows, text_of}
+use Rattle.scene_model.specs.Orders.{IsLawfulFrom, after_all}
 use Rattle.scene_model.specs.declared.act.Act.{Act}
 use Rattle.scene_model.specs.declared.scene.Scene.{Scene}
 use Rattle.run_logs.specs.declared.counting.LogSize.{LogSize}
@@ -22,6 +23,15 @@ pub record HasRun (scene : Scene) (limits : List ℕ) (core : CoreView) : Type 0
 -- the text of the rows that were handed out: the header, and a line for each
 abbrev pub text_out : CoreView → List ℕ
 text_out core = text_of core.scene (rows_out core)
+
+-- these acts were done to a core one after another, each allowed in its turn, and nothing else that contracts see changed
+pub record AreDone (before : CoreView) (acts : List Act) (now : CoreView) : Type 0 where
+  pub lawful : IsLawfulFrom before.scene before.limits before.counts acts
+  pub is : now ≡ record before { counts = after_all before.counts acts }
+
+-- allowed acts were done, which ones is left open
+abbrev pub WentOn : CoreView → CoreView → Type 0
+WentOn before now = (acts : List Act) × AreDone before acts now
 
 -- ---- sizes
 

@@ -10,7 +10,7 @@ ghost use Rattle.step_core.specs.Cores.{BeginsLog, Released};
 ghost use Rattle.step_core.specs.Running.{IsRunning, IsSizeOut};
 
 use crate::scene_core::Core;
-use crate::schedule::Schedule;
+use crate::schedule::{Schedule, do_turn};
 use crate::to_sink::is_due;
 use music_base::NoMemory;
 use run_logs::{LogCounter, LogSize, header_size};
@@ -39,7 +39,7 @@ fn count_released(
     log.count(alloc, scene, rows.as_slice(), size)
 }
 
-/// Does acts until none is left, and counts rows whenever many are held.
+/// Has applications act in turn until none can, and counts rows whenever many are held.
 fn drive(
     alloc: Global,
     scene: &Scene,
@@ -56,11 +56,9 @@ fn drive(
     ensures bytes { IfOk result (λ size. size.bytes ≡ length (log_of scene.now)) }
 {
     let mut size = begun;
-    let mut acts = 0u64;
     while let Some(act) = schedule.next_act(scene, core) {
-        core.act(alloc, act)?;
-        acts = acts.wrapping_add(1);
-        if is_due(core, acts) {
+        do_turn(alloc, core, schedule, act)?;
+        if is_due(core) {
             size = count_released(alloc, scene, core, log, size)?;
         }
     }

@@ -5,6 +5,7 @@ mod alone;
 mod counted;
 mod laws;
 mod releasing;
+mod rounds;
 mod scene_core;
 mod schedule;
 mod starts;

@@ -100,7 +100,7 @@ impl Core {
     }
 
     /// A block lies there that the receiver's next step wants.
-    fn can_take(&self, link: LinkId) -> bool
+    pub(crate) fn can_take(&self, link: LinkId) -> bool
         ensures { IsTrue result ↔ CanTake self.now.scene self.now.counts link }
     {
         let place = link.0 as usize;
@@ -113,7 +113,7 @@ impl Core {
     }
 
     /// The sender has a block for it, and there is room.
-    fn can_put(&self, link: LinkId) -> bool
+    pub(crate) fn can_put(&self, link: LinkId) -> bool
         ensures { IsTrue result ↔ CanPut self.now.scene self.now.limits self.now.counts link }
     {
         let place = link.0 as usize;
@@ -126,7 +126,7 @@ impl Core {
     }
 
     /// The application's next step waits for nothing.
-    fn can_run(&self, app: AppId) -> bool
+    pub(crate) fn can_run(&self, app: AppId) -> bool
         ensures { IsTrue result ↔ CanRun self.now.scene self.now.counts app }
     {
         let place = app.0 as usize;
@@ -135,6 +135,15 @@ impl Core {
         }
         let machine = &self.machines[place];
         machine.wants_run()
+    }
+
+    /// The clock of the application's next step, in ns, or after its last step that of one more; 0 where there is no such
+    /// application. A schedule asks it, and nothing rests on it.
+    pub(crate) fn clock(&self, app: AppId) -> u64 {
+        match self.machines.get(app.0 as usize) {
+            Some(machine) => machine.clock().0,
+            None => 0,
+        }
     }
 
     /// Whether the act is allowed. An act of a connection or an application that the scene has not is not.
@@ -193,7 +202,7 @@ impl Core {
     }
 
     /// Takes a block from a connection.
-    fn take(&mut self, link: LinkId) -> Result<(), NoMemory>
+    pub(crate) fn take(&mut self, link: LinkId) -> Result<(), NoMemory>
         requires { CanTake self.old.scene self.old.counts link }
         ensures ok { OnOk result (self.new ≡ did self.old (Take link)) }
         ensures err { OnErr result (self.new ≡ self.old) }
@@ -206,7 +215,7 @@ impl Core {
     }
 
     /// Puts a block on a connection.
-    fn put(&mut self, link: LinkId)
+    pub(crate) fn put(&mut self, link: LinkId)
         requires { CanPut self.old.scene self.old.limits self.old.counts link }
         ensures { self.new ≡ did self.old (Put link) }
     {
@@ -217,7 +226,7 @@ impl Core {
     }
 
     /// Runs a step of an application, and holds its rows.
-    fn run(&mut self, alloc: Global, app: AppId) -> Result<(), NoMemory>
+    pub(crate) fn run(&mut self, alloc: Global, app: AppId) -> Result<(), NoMemory>
         requires { CanRun self.old.scene self.old.counts app }
         ensures ok { OnOk result (self.new ≡ did self.old (Run app)) }
         ensures err { OnErr result (self.new ≡ self.old) }

@@ -2,25 +2,24 @@
 //!
 //! A schedule is a hint: it looks where an act is likely, and where it finds none the core looks everywhere. So no contract
 //! speaks of what it has.
-ghost use Rattle.std.specs.Prelude.{◌≤◌, IfSome, MatchOption};
+ghost use Rattle.std.specs.Prelude.{◌≤◌, IfSome, MatchOption, OnOk};
 ghost use Rattle.scene_model.specs.Orders.{AllFinished};
-ghost use Rattle.step_core.specs.Cores.{Can};
+ghost use Rattle.step_core.specs.Cores.{Can, did};
+ghost use Rattle.step_core.specs.Running.{WentOn};
 
 use crate::scene_core::Core;
 use music_base::{AppId, LinkId, NoMemory};
 use scene_model::{Act, Scene};
 use std::alloc::Global;
 
-/// How many of its ticks an application goes on before the least clock is looked for again, so that few rows are held.
-const TICKS_AT_ONCE: u64 = 16;
-
 /// An application as the schedule sees it.
 #[derive(Drop)]
 struct Entry {
-    /// What it can do, in the order in which it mostly does it: all takes, a step, all puts.
-    acts: Vec<Act>,
-    /// The place in `acts` to look at first, which is behind the last act that was found.
-    at: usize,
+    app: AppId,
+    into: Vec<LinkId>,
+    out: Vec<LinkId>,
+    /// The applications at the other ends of these connections.
+    others: Vec<AppId>,
     /// The clock of its next step, in ns.
     clock: u64,
     tick: u64,
@@ -28,25 +27,52 @@ struct Entry {
     listed: bool,
 }
 
-impl Entry {
-    /// Goes on to the next place, round and round.
-    fn go_on(&mut self) {
-        let next = self.at.saturating_add(1);
-        self.at = if next < self.acts.len() { next } else { 0 };
+/// The first of these connections from which a block can be taken.
+fn take_from(core: &Core, into: &[LinkId]) -> Option<Act>
+    ensures { IfSome result (λ act. Can core.now act) }
+{
+    for link in into {
+        if core.can(Act::Take(*link)) {
+            return Some(Act::Take(*link));
+        }
     }
+    None
+}
 
-    /// The first act of the application that is allowed, from the place to look at on.
-    fn act(&mut self, core: &Core) -> Option<Act>
+/// The first of these connections on which a block can be put.
+fn put_on(core: &Core, out: &[LinkId]) -> Option<Act>
+    ensures { IfSome result (λ act. Can core.now act) }
+{
+    for link in out {
+        if core.can(Act::Put(*link)) {
+            return Some(Act::Put(*link));
+        }
+    }
+    None
+}
+
+/// A step of the application, where it can be run.
+fn step_of(core: &Core, app: AppId) -> Option<Act>
+    ensures { IfSome result (λ act. Can core.now act) }
+{
+    if core.can(Act::Run(app)) {
+        return Some(Act::Run(app));
+    }
+    None
+}
+
+impl Entry {
+    /// An act of the application that is allowed: its puts come first, then its takes, then its step.
+    fn act(&self, core: &Core) -> Option<Act>
         ensures { IfSome result (λ act. Can core.now act) }
     {
-        for _ in 0..self.acts.len() {
-            let act = *self.acts.get(self.at)?;
-            self.go_on();
-            if core.can(act) {
-                return Some(act);
-            }
+        if let Some(act) = put_on(core, &self.out) {
+            return Some(act);
         }
-        None
+        if let Some(act) = take_from(core, &self.into) {
+            return Some(act);
+        }
+        step_of(core, self.app)
     }
 }
 
@@ -57,33 +83,40 @@ fn places(count: usize) -> u32
     count.min(u32::MAX as usize) as u32
 }
 
-/// Appends the takes of an application.
-fn push_takes(acts: &mut Vec<Act>, scene: &Scene, app: AppId) -> Result<(), NoMemory> {
+/// The connections that lead to an application.
+fn links_into(alloc: Global, scene: &Scene, app: AppId) -> Result<Vec<LinkId>, NoMemory> {
+    let mut links = Vec::new(alloc);
     for place in 0..places(scene.links.len()) {
         if scene.links.as_slice()[place as usize].to_app == app {
-            acts.push(Act::Take(LinkId(place)))?;
+            links.push(LinkId(place))?;
         }
     }
-    Ok(())
+    Ok(links)
 }
 
-/// Appends the puts of an application.
-fn push_puts(acts: &mut Vec<Act>, scene: &Scene, app: AppId) -> Result<(), NoMemory> {
+/// The connections that begin at an application.
+fn links_out_of(alloc: Global, scene: &Scene, app: AppId) -> Result<Vec<LinkId>, NoMemory> {
+    let mut links = Vec::new(alloc);
     for place in 0..places(scene.links.len()) {
         if scene.links.as_slice()[place as usize].from_app == app {
-            acts.push(Act::Put(LinkId(place)))?;
+            links.push(LinkId(place))?;
         }
     }
-    Ok(())
+    Ok(links)
 }
 
-/// All that an application can do.
-fn acts_of(alloc: Global, scene: &Scene, app: AppId) -> Result<Vec<Act>, NoMemory> {
-    let mut acts = Vec::new(alloc);
-    push_takes(&mut acts, scene, app)?;
-    acts.push(Act::Run(app))?;
-    push_puts(&mut acts, scene, app)?;
-    Ok(acts)
+/// The applications at the other ends of the connections of an application, each once for each connection.
+fn others_of(alloc: Global, scene: &Scene, app: AppId) -> Result<Vec<AppId>, NoMemory> {
+    let mut others = Vec::new(alloc);
+    for link in scene.links.as_slice() {
+        if link.from_app == app {
+            others.push(link.to_app)?;
+        }
+        if link.to_app == app {
+            others.push(link.from_app)?;
+        }
+    }
+    Ok(others)
 }
 
 /// The place of the listed application with the least clock.
@@ -101,15 +134,12 @@ fn first_listed(entries: &[Entry]) -> Option<usize> {
 
 /// The applications that may be able to act, and how far each has come.
 ///
-/// Of those that may act the one with the least clock goes on for some ticks, or until it lacks a block or room. So none
-/// runs far ahead of the others.
+/// Of those that may act it is the turn of the one with the least clock. So none runs far ahead of the others.
 #[derive(Drop)]
 pub struct Schedule {
     entries: Vec<Entry>,
-    /// The application that goes on.
+    /// The application whose turn it is.
     at: usize,
-    /// The clock up to which it goes on, in ns.
-    until: u64,
 }
 
 impl Schedule {
@@ -118,43 +148,26 @@ impl Schedule {
         let mut entries = Vec::new(alloc);
         for place in 0..places(scene.apps.len()) {
             let declared = &scene.apps.as_slice()[place as usize];
+            let app = AppId(place);
             entries.push(Entry {
-                acts: acts_of(alloc, scene, AppId(place))?,
-                at: 0,
+                app,
+                into: links_into(alloc, scene, app)?,
+                out: links_out_of(alloc, scene, app)?,
+                others: others_of(alloc, scene, app)?,
                 clock: declared.start.0,
                 tick: declared.tick.0,
                 listed: true,
             })?;
         }
-        Ok(Schedule {
-            entries,
-            at: 0,
-            until: 0,
-        })
+        Ok(Schedule { entries, at: 0 })
     }
 
-    /// The place of the application to look at.
-    fn choose(&mut self) -> Option<usize> {
-        if let Some(entry) = self.entries.get(self.at) {
-            if entry.listed && entry.clock < self.until {
-                return Some(self.at);
-            }
-        }
-        let place = first_listed(&self.entries)?;
-        let entry = self.entries.get(place)?;
-        self.at = place;
-        self.until = entry
-            .clock
-            .saturating_add(entry.tick.saturating_mul(TICKS_AT_ONCE));
-        Some(place)
-    }
-
-    /// An act of the application that is chosen. Where there is none, the application is no longer listed.
+    /// An act of the application whose turn it is. Where there is none, the application is no longer listed.
     fn look(&mut self, core: &Core) -> Option<Act>
         ensures { IfSome result (λ act. Can core.now act) }
     {
-        let place = self.choose()?;
-        let entry = self.entries.get_mut(place)?;
+        self.at = first_listed(&self.entries)?;
+        let entry = self.entries.get_mut(self.at)?;
         let act = entry.act(core);
         entry.listed = act.is_some();
         act
@@ -210,4 +223,49 @@ impl Schedule {
         }
         act
     }
+
+    /// An application at the other end of a connection of the one whose turn it is.
+    fn other(&self, place: usize) -> Option<AppId> {
+        let entry = self.entries.get(self.at)?;
+        Some(*entry.others.get(place)?)
+    }
+
+    /// Lists the applications at the other ends of the connections of the one whose turn it is.
+    fn list_others(&mut self) {
+        let count = match self.entries.get(self.at) {
+            Some(entry) => entry.others.len(),
+            None => 0,
+        };
+        for place in 0..count {
+            if let Some(app) = self.other(place) {
+                self.list(app);
+            }
+        }
+    }
+
+    /// Does more acts of the application whose turn it is: some rounds, or as many as it can.
+    pub fn go_on(&mut self, alloc: Global, core: &mut Core) -> Result<(), NoMemory>
+        ensures { WentOn core.old core.new }
+    {
+        if let Some(entry) = self.entries.get_mut(self.at) {
+            entry.listed = core.rounds(alloc, entry.app, &entry.into, &entry.out)?;
+            entry.clock = core.clock(entry.app);
+        }
+        self.list_others();
+        Ok(())
+    }
+}
+
+/// Does this act, and then more of the application whose turn it is.
+pub fn do_turn(
+    alloc: Global,
+    core: &mut Core,
+    schedule: &mut Schedule,
+    act: Act,
+) -> Result<(), NoMemory>
+    requires { Can core.old act }
+    ensures { OnOk result (WentOn (did core.old act) core.new) }
+{
+    core.act(alloc, act)?;
+    schedule.go_on(alloc, core)
 }

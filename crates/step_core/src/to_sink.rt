@@ -11,7 +11,7 @@ ghost use Rattle.step_core.specs.Cores.{BeginsLog, Released};
 ghost use Rattle.step_core.specs.Running.{HasRun, IsRunning, text_out};
 
 use crate::scene_core::Core;
-use crate::schedule::Schedule;
+use crate::schedule::{Schedule, do_turn};
 use music_base::Sink;
 use run_logs::{LogWriter, WriteFault};
 use scene_model::Scene;
@@ -21,12 +21,9 @@ use tick_plan::Plan;
 /// Rows are written once so many are held.
 const ROWS_AT_ONCE: usize = 4096;
 
-/// Whether rows are to be written is asked once in so many acts.
-const ACTS_AT_ONCE: u64 = 64;
-
-/// Whether rows are to be written after so many acts.
-pub(crate) fn is_due(core: &Core, acts: u64) -> bool {
-    acts % ACTS_AT_ONCE == 0 && core.rows.row_count() >= ROWS_AT_ONCE
+/// Whether rows are to be written.
+pub(crate) fn is_due(core: &Core) -> bool {
+    core.rows.row_count() >= ROWS_AT_ONCE
 }
 
 /// Releases the rows that none can come before any more, and writes their lines.
@@ -56,7 +53,7 @@ fn write_released<K: Sink>(
     log.write(alloc, scene, rows.as_slice(), sink)
 }
 
-/// Does acts until none is left, and writes rows whenever many are held.
+/// Has applications act in turn until none can, and writes rows whenever many are held.
 fn drive<K: Sink>(
     alloc: Global,
     scene: &Scene,
@@ -76,13 +73,11 @@ fn drive<K: Sink>(
     ensures stays { OnOk result (K.faults sink.new ≡ K.faults sink.old) }
     ensures never_falls { K.faults sink.old ≤ K.faults sink.new }
 {
-    let mut acts = 0u64;
     while let Some(act) = schedule.next_act(scene, core) {
-        if core.act(alloc, act).is_err() {
+        if do_turn(alloc, core, schedule, act).is_err() {
             return Err(WriteFault::Memory);
         }
-        acts = acts.wrapping_add(1);
-        if is_due(core, acts) {
+        if is_due(core) {
             write_released(alloc, scene, core, log, sink)?;
         }
     }
