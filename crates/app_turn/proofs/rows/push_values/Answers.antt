@@ -14,7 +14,7 @@ pub loop-local-preserved : goal.loop-local-preserved
 loop-local-preserved c =
     let globals = globals_of c.args.ports.now c.args.place.now.rank in
     let local = c.loop-local.local in
-    elim c.match-global_at.branch [
+    elim c.match-global_by.branch [
       | in-Some+in_ok-push w ↦
           let at : w.in-Some.global ≡ slice_index globals local = sym (got_at globals local w.in-Some.global 0 (sym w.in-Some.ensures)) in
           let row : w.row_of.result ≡ value_row c.args.place.now globals (value_in c.args.items.now) local =
