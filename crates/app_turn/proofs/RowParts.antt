@@ -1,19 +1,18 @@
 -- Rows of a step, rank by rank and port by port.
-use Rattle.std.proofs.Common.{ℕ, zero, suc, ◌+◌, ◌<◌, ◌≡◌, refl, sym, ◌∙◌, ap, arith, List, [], ◌∷◌, ◌++◌, length, map, append_assoc, get_or, lt-ltb, Option, Some, None, true}
-use Rattle.std.specs.Prelude.{◌==◌, if◌then◌else◌, IfSome, nat_lt, slice_get, slice_index_or}
-use Rattle.std.specs.List.{flat_map, list_all, position, range_with_len}
+use Rattle.std.proofs.Common.{ℕ, zero, suc, ◌+◌, ◌<◌, ◌≡◌, refl, sym, ◌∙◌, ap, arith, List, [], ◌∷◌, ◌++◌, length, map, append_assoc, get_or, Option, Some, None, true}
+use Rattle.std.specs.Prelude.{◌==◌, nat_lt, slice_get, slice_index_or}
+use Rattle.std.specs.List.{flat_map, list_all, position}
 use Rattle.std.specs.Option.{option_to_list}
 use Rattle.std.proofs.lemmas.Bool.{and_parts}
 use Rattle.std.proofs.lemmas.Grind.{flat_map-append}
 use Rattle.std.proofs.lemmas.List.{append-nil}
-use Rattle.std.proofs.lemmas.List.FromFn.{length-range_with_len, map-range_with_len_more}
+use Rattle.std.proofs.lemmas.List.FromFn.{map-range_with_len_more}
 use Rattle.music_base.specs.Numbers.{all_differ, below}
 use Rattle.music_base.proofs.Lists.{range_with_len-more}
 use Rattle.index_maps.specs.Indices.{are_indices}
 use Rattle.index_maps.specs.Maps.{globals_of, rank_count}
 use Rattle.index_maps.specs.declared.span.TheConstants.{INDEX_LIMIT}
 use Rattle.index_maps.proofs.Positions.{place_or_none}
-use Rattle.index_maps.proofs.Ranges.{slice_get_range}
 use Rattle.scene_model.specs.Clocks.{clock}
 use Rattle.scene_model.specs.Logs.{places_of, rank_items_in, step_rows_in}
 use Rattle.scene_model.specs.Scenes.{app_at, port_at}
@@ -26,7 +25,7 @@ use Rattle.scene_model.specs.declared.port.PortKind.{PortKind}
 use Rattle.scene_model.specs.declared.port.PortKind.TheVariants.{Events, Messages, Values}
 use Rattle.scene_model.specs.declared.row.RowItem.TheVariants.{Event as EventRow}
 use Rattle.scene_model.specs.declared.scene.Scene.{Scene}
-use Rattle.app_turn.specs.Rows.{FollowsOn, HasNoRows, port_rows_of, rank_rows_of, row_of}
+use Rattle.app_turn.specs.Rows.{HasNoRows, port_rows_of, rank_rows_of, row_of}
 
 at_end : (n : ℕ) → 0 + n ≡ n
 at_end n = omega arith
@@ -86,12 +85,3 @@ no_rows decl clock app port [] h =
     nothing (λ r. rank_rows_of decl (record { clock = clock; app = app; port = port; rank = r }) []) (below (rank_count decl.map))
     (λ r. ap (map (row_of (record { clock = clock; app = app; port = port; rank = r }))) (nothing_in decl.direction decl.kind (globals_of decl.map r) h.1))
 no_rows decl clock app port (item ∷ items) h = absurd (omega (arith, h.0))
-
--- the numbers of a range follow its first one
-pub range_follows : (a n : ℕ) (first : Option ℕ) → first ≡ slice_get (range_with_len a n) 0 → IfSome first (FollowsOn (range_with_len a n))
-range_follows a n None is = tt
-range_follows a n (Some first) is = λ i inside.
-    let lt : i < n = omega (arith, inside, length-range_with_len a n) in
-    let h : Some first ≡ Some (a + 0) = is ∙ slice_get_range a n 0 ∙ ap (λ b. if b then Some (a + 0) else None) (lt-ltb 0 n (omega (arith, lt))) in
-    let begins : first ≡ a + 0 = cc in
-    slice_get_range a n i ∙ ap (λ b. if b then Some (a + i) else None) (lt-ltb i n lt) ∙ ap (λ x. Some x) (omega (arith, begins))

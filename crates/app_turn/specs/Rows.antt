@@ -1,6 +1,7 @@
 -- Rows of what a rank read in a step.
-use Rattle.std.specs.Prelude.{ℕ, ℤ, ◌+◌, ◌<◌, ◌≡◌, List, Some, length, map, slice_get, slice_index}
-use Rattle.std.specs.List.{flat_map}
+use Rattle.std.specs.Prelude.{ℕ, ℤ, ◌≡◌, List, length, map, slice_index}
+use Rattle.std.specs.List.{flat_map, range_with_len}
+use Rattle.index_maps.specs.Indices.{Extent}
 use Rattle.index_maps.specs.Maps.{globals_of}
 use Rattle.music_base.specs.declared.item.Item.{Item}
 use Rattle.music_base.specs.Numbers.{below}
@@ -26,9 +27,9 @@ rank_rows_of decl place items = map (row_of place) (rank_items_in decl.direction
 abbrev pub port_rows_of : PortDecl → ℕ → ℕ → ℕ → List Item → List Row
 port_rows_of decl clock app port items = flat_map (λ r. rank_rows_of decl (record { clock = clock; app = app; port = port; rank = r }) items) (below (rank_count decl.map))
 
--- indices that follow one another from a first one on, without a gap
-abbrev pub FollowsOn : List ℕ → ℕ → Type 0
-FollowsOn globals first = (i : ℕ) → i < length globals → slice_get globals i ≡ Some (first + i)
+-- these indices are consecutive
+abbrev pub IsSpanOf : List ℕ → Extent → Type 0
+IsSpanOf globals span = globals ≡ range_with_len span.base span.size
 
 -- nothing came to a port that is no continuous input
 abbrev pub HasNoRows : PortDecl → List Item → Type 0

@@ -6,8 +6,9 @@ ghost use Rattle.scene_model.specs.Logs.{arrived_at, places_of};
 ghost use Rattle.scene_model.specs.declared.port.Direction.TheVariants.{Input};
 ghost use Rattle.scene_model.specs.declared.port.PortKind.TheVariants.{Events};
 ghost use Rattle.app_turn.specs.ByRank.{IsOnlyRank, got_at, no_item};
-ghost use Rattle.app_turn.specs.Rows.{port_rows_of, row_of};
+ghost use Rattle.app_turn.specs.Rows.{IsSpanOf, port_rows_of, row_of};
 
+use crate::rank_indices::span_at;
 use crate::rows::{ReadAt, arrived, push_got, rank_count};
 use index_maps::{PortMap, Span};
 use music_base::{AppId, Item, Items, Nanos, NoMemory, PortId, Rank};
@@ -124,15 +125,17 @@ fn push_item_at(
     rows: &mut Items<Row>,
     place: &ReadAt,
     ports: &PortMap,
+    span: &Option<Span>,
     items: &[Item],
     at: usize,
 ) -> Result<(), NoMemory>
-    requires { place.now.rank < rank_count ports.now }
+    requires rank { place.now.rank < rank_count ports.now }
+    requires span { IfSome span.now (IsSpanOf (globals_of ports.now place.now.rank)) }
     ensures { OnOk result (rows.new ≡ rows.old ++ map (row_of place.now) (arrived_at (globals_of ports.now place.now.rank) (slice_index_or items.now at no_item))) }
 {
     match items.get(at) {
         Some(item) => {
-            let got = arrived(alloc, ports, place.rank, item)?;
+            let got = arrived(alloc, ports, place.rank, span, item)?;
             push_got(rows, place, got)
         }
         None => Ok(()),
@@ -151,8 +154,9 @@ fn push_places(
     requires { place.now.rank < rank_count ports.now }
     ensures { OnOk result (rows.new ≡ rows.old ++ map (row_of place.now) (got_at (globals_of ports.now place.now.rank) items.now places.now)) }
 {
+    let span = span_at(ports, place.rank);
     for at in places {
-        push_item_at(alloc, rows, place, ports, items, *at)?;
+        push_item_at(alloc, rows, place, ports, &span, items, *at)?;
     }
     Ok(())
 }

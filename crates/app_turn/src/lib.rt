@@ -13,6 +13,7 @@ mod machine;
 mod needs;
 mod opening;
 mod own_links;
+mod rank_indices;
 mod reading;
 mod rows;
 mod shaping;

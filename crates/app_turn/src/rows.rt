@@ -1,14 +1,15 @@
 //! The rows of one rank of a port, made of what the port read.
-ghost use Rattle.std.specs.Prelude.{◌≡◌, ◌<◌, ◌≤◌, ◌++◌, length, map, slice_get, IfOk, IfSome, OnOk};
+ghost use Rattle.std.specs.Prelude.{◌≡◌, ◌<◌, ◌≤◌, ◌++◌, map, IfOk, IfSome, OnOk};
 ghost use Rattle.std.specs.List.{flat_map};
 ghost use Rattle.std.specs.Option.{option_to_list};
 ghost use Rattle.index_maps.specs.Maps.{globals_of, rank_count};
 ghost use Rattle.scene_model.specs.Logs.{arrived_at, read_at};
 ghost use Rattle.scene_model.specs.Tables.{value_in};
 ghost use Rattle.rule_turns.specs.Turning.{AreAscending, IsInput};
-ghost use Rattle.app_turn.specs.Rows.{FollowsOn, rank_rows_of, row_of};
+ghost use Rattle.app_turn.specs.Rows.{IsSpanOf, rank_rows_of, row_of};
 
-use index_maps::PortMap;
+use crate::rank_indices::{global_by, local_by, size_by, span_at};
+use index_maps::{PortMap, Span};
 use music_base::{AppId, Item, Items, Nanos, NoMemory, PortId, Rank, Sample, TryCopy};
 use rule_turns::value_at;
 use scene_model::{Direction, PortDecl, PortKind, Row, RowItem};
@@ -86,39 +87,14 @@ fn value_near(items: &[Item], near: usize, index: u32) -> Sample
 }
 
 /// Where the first index of a rank stands among values that ascend.
-fn first_place(items: &[Item], ports: &PortMap, rank: Rank) -> usize
-    requires { rank < rank_count ports.now }
+fn first_place(items: &[Item], ports: &PortMap, rank: Rank, span: &Option<Span>) -> usize
+    requires rank { rank < rank_count ports.now }
+    requires span { IfSome span.now (IsSpanOf (globals_of ports.now rank)) }
 {
-    match ports.global_at(rank, 0) {
+    match global_by(ports, rank, span, 0) {
         Some(global) => place_by_halves(items, global),
         None => 0,
     }
-}
-
-/// The first index of a rank, where its indices are known to follow one another without a gap.
-fn first_in_row(ports: &PortMap, rank: Rank) -> Option<u32>
-    requires { rank < rank_count ports.now }
-    ensures { IfSome result (FollowsOn (globals_of ports.now rank)) }
-{
-    match ports {
-        PortMap::Split { .. } => ports.global_at(rank, 0),
-        PortMap::Each(_) => None,
-    }
-}
-
-/// The index at a local place of a rank, by its first one where the others follow that without a gap.
-fn global_by(ports: &PortMap, rank: Rank, first: Option<u32>, local: u32) -> Option<u32>
-    requires rank { rank < rank_count ports.now }
-    requires first { IfSome first (FollowsOn (globals_of ports.now rank)) }
-    requires local { local < length (globals_of ports.now rank) }
-    ensures { result ≡ slice_get (globals_of ports.now rank) local }
-{
-    if let Some(first) = first {
-        if let Some(global) = first.checked_add(local) {
-            return Some(global);
-        }
-    }
-    ports.global_at(rank, local)
 }
 
 /// Adds the values of a rank's indices. Where these are consecutive, so are the places of their values.
@@ -132,10 +108,10 @@ fn push_values(
     requires ascend { AreAscending 0 items.now }
     ensures { OnOk result (rows.new ≡ rows.old ++ map (row_of place.now) (read_at (globals_of ports.now place.now.rank) (value_in items.now))) }
 {
-    let near = first_place(items, ports, place.rank);
-    let first = first_in_row(ports, place.rank);
-    for local in 0..ports.size_at(place.rank) {
-        if let Some(global) = global_by(ports, place.rank, first, local) {
+    let span = span_at(ports, place.rank);
+    let near = first_place(items, ports, place.rank, &span);
+    for local in 0..size_by(ports, place.rank, &span) {
+        if let Some(global) = global_by(ports, place.rank, &span, local) {
             let value = value_near(items, near.saturating_add(local as usize), global);
             rows.push(row_of(
                 place,
@@ -155,13 +131,15 @@ pub fn arrived(
     alloc: Global,
     ports: &PortMap,
     rank: Rank,
+    span: &Option<Span>,
     item: &Item,
 ) -> Result<Option<RowItem>, NoMemory>
-    requires { rank < rank_count ports.now }
+    requires rank { rank < rank_count ports.now }
+    requires span { IfSome span.now (IsSpanOf (globals_of ports.now rank)) }
     ensures { IfOk result (λ got. option_to_list got ≡ arrived_at (globals_of ports.now rank) item.now) }
 {
     match item {
-        Item::Event(event) => match ports.local_at(rank, event.global) {
+        Item::Event(event) => match local_by(ports, rank, span, event.global) {
             Some(local) => Ok(Some(RowItem::Event {
                 local,
                 global: event.global,
@@ -197,8 +175,9 @@ fn push_arrivals(
     requires { place.now.rank < rank_count ports.now }
     ensures { OnOk result (rows.new ≡ rows.old ++ map (row_of place.now) (flat_map (arrived_at (globals_of ports.now place.now.rank)) items.now)) }
 {
+    let span = span_at(ports, place.rank);
     for item in items {
-        let got = arrived(alloc, ports, place.rank, item)?;
+        let got = arrived(alloc, ports, place.rank, &span, item)?;
         push_got(rows, place, got)?;
     }
     Ok(())

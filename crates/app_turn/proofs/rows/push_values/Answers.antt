@@ -22,12 +22,12 @@ loop-local-preserved c =
           ∙ ap (λ g. row_of c.args.place.now (ValueRow local g (value_in c.args.items.now g))) at in
           rw w.rows-is (map_more (value_row c.args.place.now globals (value_in c.args.items.now)) local c.args.rows.now c.loop-local.rows _ c.loop-local.invariant
           (w.in_ok-push.ensures.ok ∙ ap (λ y. c.loop-local.rows ++ y ∷ []) row))
-      | in_default w ↦ absurd (not_past globals local (sym w.in_default.ensures) (omega (arith, c.loop-local-test.true, c.size_at-local-end.ensures.size)))
+      | in_default w ↦ absurd (not_past globals local (sym w.in_default.ensures) (omega (arith, c.loop-local-test.true, c.size_by-local-end.ensures)))
     ]
 
 pub returns : goal.returns
 returns c =
     let globals = globals_of c.args.ports.now c.args.place.now.rank in
-    let all : c.loop-local.local ≡ length globals = omega (arith, c.loop-local-test.false, c.loop-local.auto.local-end, c.size_at-local-end.ensures.size) in
+    let all : c.loop-local.local ≡ length globals = omega (arith, c.loop-local-test.false, c.loop-local.auto.local-end, c.size_by-local-end.ensures) in
     c.loop-local.invariant ∙ ap (λ n. c.args.rows.now ++ map (value_row c.args.place.now globals (value_in c.args.items.now)) (below n)) all
     ∙ ap (λ ys. c.args.rows.now ++ ys) (sym (map-map (row_of c.args.place.now) (λ local. ValueRow local (slice_index globals local) (value_in c.args.items.now (slice_index globals local))) (below (length globals))))
