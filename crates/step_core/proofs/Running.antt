@@ -1,6 +1,6 @@
 -- Steps of a run, and what was written of its log.
-use Rattle.std.proofs.Common.{ℕ, ◌<◌, ◌≤◌, ◌≡◌, true, false, ◌&&◌, arith, refl, sym, ◌∙◌, ap, subst, List, [], ◌∷◌, ◌++◌, length, append-nil, append_assoc}
-use Rattle.std.specs.Prelude.{Err, Ok, OnOk, Option, Result, is_err}
+use Rattle.std.proofs.Common.{ℕ, ◌<◌, ◌≤◌, ◌≡◌, true, ◌&&◌, arith, refl, sym, ◌∙◌, ap, subst, List, [], ◌∷◌, ◌++◌, length, append-nil, append_assoc}
+use Rattle.std.specs.Prelude.{Err, Ok, OnOk, Option, Result}
 use Rattle.std.specs.List.{flat_map, list_all}
 use Rattle.std.proofs.lemmas.Bool.{and_parts}
 use Rattle.std.proofs.lemmas.List.Concat.{flat_map-append}
@@ -18,7 +18,7 @@ use Rattle.scene_model.proofs.Finish.{left_of}
 use Rattle.scene_model.proofs.WrittenLives.{history_written}
 use Rattle.scene_model.proofs.WrittenRows.{rows_writable}
 use Rattle.step_core.specs.Cores.{BeginsLog, Can, CoreView, IsAfter, IsDone, Released, did, opened, rows_out, rows_so_far}
-use Rattle.step_core.specs.Running.{AreDone, HasRun, IsRunning, WentOn, text_out}
+use Rattle.step_core.specs.Running.{AreDone, DidSome, HasRun, IsRunning, text_out}
 use Rattle.step_core.proofs.Finding.{after_act_is, one_less_left}
 use Rattle.step_core.proofs.Releases.{all_held_at_end, begins_opened, none_opened}
 
@@ -76,21 +76,21 @@ module _ (scene : Scene) (limits : List ℕ) where
       omega (arith, rest, act_less scene limits core run act is.lawful.0)
 
 module _ (scene : Scene) (limits : List ℕ) (core next : CoreView) (run : IsRunning scene limits core) where
-  -- an act, and others behind it
-  module _ (act : Act) (can : Can core act) (went : WentOn (did core act) next) where
+  -- acts
+  module _ (some : DidSome core next) where
     -- hand out no rows
     pub out_stays : rows_out next ≡ rows_out core
-    out_stays = ap rows_out went.1.is ∙ same_out core (after_all (after core.counts act) went.0)
+    out_stays = ap rows_out some.more.1.is ∙ same_out core (after_all (after core.counts some.act) some.more.0)
 
     pub text_stays : text_out next ≡ text_out core
-    text_stays = ap (λ (s : Scene). text_of s (rows_out next)) (ap (λ (x : CoreView). x.scene) went.1.is) ∙ ap (text_of core.scene) out_stays
+    text_stays = ap (λ (s : Scene). text_of s (rows_out next)) (ap (λ (x : CoreView). x.scene) some.more.1.is) ∙ ap (text_of core.scene) out_stays
 
     pub turn_took : (before after : Option (List ℕ)) → Took before (text_out core) after → Took before (text_out next) after
     turn_took before after took = subst (λ (l : List ℕ). Took before l after) (sym text_stays) took
 
     -- and leave less to do
     pub turn_less : left_of next.scene next.counts < left_of core.scene core.counts
-    turn_less = omega (arith, left_along scene limits went.0 (did core act) next (act_runs scene limits core run act can) went.1, act_less scene limits core run act can)
+    turn_less = omega (arith, left_along scene limits some.more.0 (did core some.act) next (act_runs scene limits core run some.act some.can) some.more.1, act_less scene limits core run some.act some.can)
 
     -- also after a release
     pub release_less : (last : CoreView) (handed : List Row) → Released next handed last → left_of last.scene last.counts < left_of core.scene core.counts
@@ -99,7 +99,18 @@ module _ (scene : Scene) (limits : List ℕ) (core next : CoreView) (run : IsRun
         subst (λ n. n < left_of core.scene core.counts) (sym same) turn_less
 
     pub turn_runs : IsRunning scene limits next
-    turn_runs = runs_along scene limits went.0 (did core act) next (act_runs scene limits core run act can) went.1
+    turn_runs = runs_along scene limits some.more.0 (did core some.act) next (act_runs scene limits core run some.act some.can) some.more.1
+
+  -- a turn in which nothing was done leaves all as it is
+  module _ (same : next ≡ core) where
+    pub still_runs : IsRunning scene limits next
+    still_runs = subst (IsRunning scene limits) (sym same) run
+
+    pub still_took : (before after : Option (List ℕ)) → Took before (text_out core) after → Took before (text_out next) after
+    still_took before after took = subst (λ (x : CoreView). Took before (text_out x) after) (sym same) took
+
+    pub still_finished : AllFinished core.scene core.counts → AllFinished next.scene next.counts
+    still_finished finished = subst (λ (x : CoreView). AllFinished x.scene x.counts) (sym same) finished
 
   -- a release leaves the order as it is
   pub release_runs : (handed : List Row) → Released core handed next → IsRunning scene limits next
@@ -225,8 +236,3 @@ on_ok (Err e) more is = tt
 pub on_both : {T E P Q S : Type 0} (r : Result T E) → (P → Q → S) → OnOk r P → OnOk r Q → OnOk r S
 on_both (Ok x) more p q = more p q
 on_both (Err e) more p q = tt
-
--- what holds on Ok, where it was no Err
-pub when_ok : {T E P : Type 0} (r : Result T E) → is_err r ≡ false → OnOk r P → P
-when_ok (Ok x) none is = is
-when_ok (Err e) none is = absurd cc

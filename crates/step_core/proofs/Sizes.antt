@@ -1,16 +1,15 @@
 -- How large what was handed out is.
-use Rattle.std.proofs.Common.{ℕ, ◌+◌, ◌≡◌, arith, sym, ◌∙◌, ap, List, length, length-append}
+use Rattle.std.proofs.Common.{ℕ, ◌+◌, ◌≡◌, arith, sym, ◌∙◌, ap, subst, List, length, length-append}
 use Rattle.std.specs.Prelude.{Err, IfOk, Ok, OnOk, Result}
 use Rattle.std.specs.List.{flat_map}
 use Rattle.scene_model.specs.Lives.{history}
 use Rattle.scene_model.specs.Logs.{header, line_of, log_of, rows}
 use Rattle.scene_model.specs.Orders.{AllFinished}
-use Rattle.scene_model.specs.declared.act.Act.{Act}
 use Rattle.scene_model.specs.declared.row.Row.{Row}
 use Rattle.scene_model.specs.declared.scene.Scene.{Scene}
 use Rattle.run_logs.specs.declared.counting.LogSize.{LogSize}
-use Rattle.step_core.specs.Cores.{Can, CoreView, Released, did, opened, rows_out}
-use Rattle.step_core.specs.Running.{IsRunning, IsSizeOut, WentOn, text_out}
+use Rattle.step_core.specs.Cores.{CoreView, Released, opened, rows_out}
+use Rattle.step_core.specs.Running.{DidSome, IsRunning, IsSizeOut, text_out}
 use Rattle.step_core.proofs.Releases.{none_opened}
 use Rattle.step_core.proofs.Running.{out_stays, text_all, text_more, text_opened, text_stays}
 
@@ -22,12 +21,15 @@ opened_size scene limits core size is none bytes = record {
 }
 
 -- acts hand out nothing
-pub turn_size : (scene : Scene) (limits : List ℕ) (core next : CoreView) (run : IsRunning scene limits core) (act : Act) → Can core act → WentOn (did core act) next
+pub turn_size : (scene : Scene) (limits : List ℕ) (core next : CoreView) (run : IsRunning scene limits core) → DidSome core next
     → (size : LogSize) → IsSizeOut core size → IsSizeOut next size
-turn_size scene limits core next run act can went size so_far = record {
-  count = so_far.count ∙ sym (ap length (out_stays scene limits core next run act can went));
-  text = so_far.text ∙ sym (ap length (text_stays scene limits core next run act can went));
+turn_size scene limits core next run some size so_far = record {
+  count = so_far.count ∙ sym (ap length (out_stays scene limits core next run some));
+  text = so_far.text ∙ sym (ap length (text_stays scene limits core next run some));
 }
+
+pub still_size : (core next : CoreView) (size : LogSize) → next ≡ core → IsSizeOut core size → IsSizeOut next size
+still_size core next size same so_far = subst (λ (x : CoreView). IsSizeOut x size) (sym same) so_far
 
 module _ (scene : Scene) (core next : CoreView) (of : core.scene ≡ scene) (handed : List Row) (is : Released core handed next) where
   -- a release hands out these rows more

@@ -1,12 +1,12 @@
 -- A core that is driven to its end, and what of its log was written.
-use Rattle.std.specs.Prelude.{◌≡◌, ℕ, List, length}
+use Rattle.std.specs.Prelude.{◌≡◌, ℕ, Bool, true, false, List, length}
 use Rattle.scene_model.specs.Lives.{history}
 use Rattle.scene_model.specs.Logs.{rows, text_of}
-use Rattle.scene_model.specs.Orders.{IsLawfulFrom, after_all}
+use Rattle.scene_model.specs.Orders.{AllFinished, IsLawfulFrom, after_all}
 use Rattle.scene_model.specs.declared.act.Act.{Act}
 use Rattle.scene_model.specs.declared.scene.Scene.{Scene}
 use Rattle.run_logs.specs.declared.counting.LogSize.{LogSize}
-use Rattle.step_core.specs.Cores.{BeginsLog, CoreView, IsAfter, IsDone, rows_out}
+use Rattle.step_core.specs.Cores.{BeginsLog, Can, CoreView, IsAfter, IsDone, did, rows_out}
 
 -- a lawful order of acts led to this core, and the rows that it handed out begin the log's
 pub record IsRunning (scene : Scene) (limits : List ℕ) (core : CoreView) : Type 0 where
@@ -32,6 +32,22 @@ pub record AreDone (before : CoreView) (acts : List Act) (now : CoreView) : Type
 -- allowed acts were done, which ones is left open
 abbrev pub WentOn : CoreView → CoreView → Type 0
 WentOn before now = (acts : List Act) × AreDone before acts now
+
+-- an allowed act was done, and others behind it
+pub record DidSome (before now : CoreView) : Type 0 where
+  pub act : Act
+  pub can : Can before act
+  pub more : WentOn (did before act) now
+
+-- an act at least was done, or nothing, as it is told
+abbrev pub Went : CoreView → Bool → CoreView → Type 0
+Went before true now = DidSome before now
+Went before false now = now ≡ before
+
+-- the same, where nothing is done only when all applications are finished
+abbrev pub TookTurn : CoreView → Bool → CoreView → Type 0
+TookTurn before true now = DidSome before now
+TookTurn before false now = (now ≡ before) × AllFinished before.scene before.counts
 
 -- ---- sizes
 

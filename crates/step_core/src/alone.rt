@@ -7,7 +7,6 @@ ghost use Rattle.tick_plan.specs.Plans.{PlanFits};
 ghost use Rattle.step_core.specs.Cores.{IsAfter, IsDone, rows_so_far};
 
 use crate::scene_core::Core;
-use crate::schedule::Schedule;
 use music_base::{Items, NoMemory};
 use scene_model::{Act, Scene};
 use std::alloc::Global;
@@ -24,14 +23,13 @@ fn drive(
     alloc: Global,
     scene: &Scene,
     core: &mut Core,
-    schedule: &mut Schedule,
     acts: &mut Items<Act>,
 ) -> Result<(), NoMemory>
     requires { IsAfter scene.now core.old.limits acts.old core.old }
     ensures done { OnOk result (IsDone scene.now core.old.limits acts.new core.new) }
     ensures kept { OnOk result (core.new.released ≡ core.old.released) }
 {
-    while let Some(act) = schedule.next_act(scene, core) {
+    while let Some(act) = core.some_act() {
         push_act(acts, &act)?;
         core.act(alloc, act)?;
     }
@@ -50,8 +48,7 @@ pub fn run_alone(alloc: Global, scene: &Scene, plan: &Plan) -> Result<(Core, Ite
     ensures rows { IfOk result (λ run. rows_so_far run.0 ≡ rows scene.now (history scene.now)) }
 {
     let mut core = Core::start(alloc, scene, plan)?;
-    let mut schedule = Schedule::make(alloc, scene)?;
     let mut acts = Items::new(alloc);
-    drive(alloc, scene, &mut core, &mut schedule, &mut acts)?;
+    drive(alloc, scene, &mut core, &mut acts)?;
     Ok((core, acts))
 }

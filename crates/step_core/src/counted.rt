@@ -10,7 +10,7 @@ ghost use Rattle.step_core.specs.Cores.{BeginsLog, Released};
 ghost use Rattle.step_core.specs.Running.{IsRunning, IsSizeOut};
 
 use crate::scene_core::Core;
-use crate::schedule::{Schedule, do_turn};
+use crate::schedule::Schedule;
 use crate::to_sink::is_due;
 use music_base::NoMemory;
 use run_logs::{LogCounter, LogSize, header_size};
@@ -56,8 +56,7 @@ fn drive(
     ensures bytes { IfOk result (λ size. size.bytes ≡ length (log_of scene.now)) }
 {
     let mut size = begun;
-    while let Some(act) = schedule.next_act(scene, core) {
-        do_turn(alloc, core, schedule, act)?;
+    while schedule.take_turn(alloc, core)? {
         if is_due(core) {
             size = count_released(alloc, scene, core, log, size)?;
         }

@@ -1,39 +1,56 @@
 //! What one application does in its turn: rounds of puts, takes and a step.
-ghost use Rattle.step_core.specs.Running.{WentOn};
+ghost use Rattle.std.specs.Prelude.{IfOk};
+ghost use Rattle.step_core.specs.Running.{Went};
 
 use crate::scene_core::Core;
-use music_base::{AppId, LinkId, NoMemory};
+use music_base::{AppId, LinkId, Nanos, NoMemory};
 use std::alloc::Global;
 
 /// How many rounds an application goes on before it is another's turn, so that none runs far ahead and few rows are held.
 const ROUNDS: usize = 16;
 
+/// A connection of an application, and the application at its other end.
+#[derive(Clone, Copy)]
+pub struct OwnLink {
+    pub link: LinkId,
+    pub other: AppId,
+}
+
 impl Core {
-    /// Puts a block on the connection where that is allowed, and answers whether it did.
-    fn put_one(&mut self, link: LinkId) -> bool
-        ensures { WentOn self.old self.new }
+    /// Writes down that an application may be able to act, with the clock of its next step.
+    fn list(&self, app: AppId, due: &mut [Option<Nanos>]) {
+        if let Some(place) = due.get_mut(app.0 as usize) {
+            *place = Some(self.clock(app));
+        }
+    }
+
+    /// Puts a block on the connection where that is allowed, and answers whether it did. Then its receiver may be able to act.
+    fn put_one(&mut self, own: OwnLink, due: &mut [Option<Nanos>]) -> bool
+        ensures { Went self.old result self.new }
     {
-        if !self.can_put(link) {
+        if !self.can_put(own.link) {
             return false;
         }
-        self.put(link);
+        self.put(own.link);
+        self.list(own.other, due);
         true
     }
 
-    /// Takes a block from the connection where that is allowed, and answers whether it did.
-    fn take_one(&mut self, link: LinkId) -> Result<bool, NoMemory>
-        ensures { WentOn self.old self.new }
+    /// Takes a block from the connection where that is allowed, and answers whether it did. Then its sender may be able to act.
+    fn take_one(&mut self, own: OwnLink, due: &mut [Option<Nanos>]) -> Result<bool, NoMemory>
+        ensures { IfOk result (λ acted. Went self.old acted self.new) }
     {
-        if !self.can_take(link) {
+        if !self.can_take(own.link) {
             return Ok(false);
         }
-        self.take(link)?;
+        self.take(own.link)?;
+        self.list(own.other, due);
         Ok(true)
     }
 
     /// Runs a step of the application where that is allowed, and answers whether it did.
     fn run_one(&mut self, alloc: Global, app: AppId) -> Result<bool, NoMemory>
-        ensures { WentOn self.old self.new }
+        ensures { IfOk result (λ acted. Went self.old acted self.new) }
     {
         if !self.can_run(app) {
             return Ok(false);
@@ -43,23 +60,23 @@ impl Core {
     }
 
     /// Puts a block on each of these connections where that is allowed, and answers whether it put one.
-    fn put_each(&mut self, links: &[LinkId]) -> bool
-        ensures { WentOn self.old self.new }
+    fn put_each(&mut self, out: &[OwnLink], due: &mut [Option<Nanos>]) -> bool
+        ensures { Went self.old result self.new }
     {
         let mut acted = false;
-        for link in links {
-            acted |= self.put_one(*link);
+        for own in out {
+            acted |= self.put_one(*own, due);
         }
         acted
     }
 
     /// Takes a block from each of these connections where that is allowed, and answers whether it took one.
-    fn take_each(&mut self, links: &[LinkId]) -> Result<bool, NoMemory>
-        ensures { WentOn self.old self.new }
+    fn take_each(&mut self, into: &[OwnLink], due: &mut [Option<Nanos>]) -> Result<bool, NoMemory>
+        ensures { IfOk result (λ acted. Went self.old acted self.new) }
     {
         let mut acted = false;
-        for link in links {
-            acted |= self.take_one(*link)?;
+        for own in into {
+            acted |= self.take_one(*own, due)?;
         }
         Ok(acted)
     }
@@ -70,33 +87,49 @@ impl Core {
         &mut self,
         alloc: Global,
         app: AppId,
-        into: &[LinkId],
-        out: &[LinkId],
+        into: &[OwnLink],
+        out: &[OwnLink],
+        due: &mut [Option<Nanos>],
     ) -> Result<bool, NoMemory>
-        ensures { WentOn self.old self.new }
+        ensures { IfOk result (λ acted. Went self.old acted self.new) }
     {
-        let put = self.put_each(out);
-        let took = self.take_each(into)?;
+        let put = self.put_each(out, due);
+        let took = self.take_each(into, due)?;
         let ran = self.run_one(alloc, app)?;
         Ok(put | took | ran)
     }
 
-    /// Some rounds of an application with these connections to it and from it, as long as there is anything to do. Answers
-    /// whether there may be more. Each act is allowed, also where memory gives out.
-    pub(crate) fn rounds(
+    /// The turn of an application with these connections to it and from it: some rounds, as long as there is anything to do.
+    /// Answers whether there was.
+    ///
+    /// `due` has for each application that may be able to act the clock of its next step. Where the turn ended for want of
+    /// anything to do, this application is not one of them any more.
+    pub(crate) fn turn(
         &mut self,
         alloc: Global,
         app: AppId,
-        into: &[LinkId],
-        out: &[LinkId],
+        into: &[OwnLink],
+        out: &[OwnLink],
+        due: &mut [Option<Nanos>],
     ) -> Result<bool, NoMemory>
-        ensures { WentOn self.old self.new }
+        ensures { IfOk result (λ acted. Went self.old acted self.new) }
     {
+        let mut acted = false;
         for _ in 0..ROUNDS {
-            if !self.round(alloc, app, into, out)? {
-                return Ok(false);
+            if !self.round(alloc, app, into, out, due)? {
+                unlist(app, due);
+                return Ok(acted);
             }
+            acted = true;
         }
-        Ok(true)
+        self.list(app, due);
+        Ok(acted)
+    }
+}
+
+/// Writes down that an application can't act.
+fn unlist(app: AppId, due: &mut [Option<Nanos>]) {
+    if let Some(place) = due.get_mut(app.0 as usize) {
+        *place = None;
     }
 }

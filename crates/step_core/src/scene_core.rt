@@ -9,7 +9,7 @@ ghost use Rattle.step_core.specs.Cores.{Can, IsStill, did, opened};
 
 use crate::starts::{limits_copy, make_rings, none_released, start_machines};
 use app_turn::AppMachine;
-use music_base::{AppId, LinkId, NoMemory, TryCopy};
+use music_base::{AppId, LinkId, Nanos, NoMemory, TryCopy};
 use port_buffers::Ring;
 use run_logs::RowMerger;
 use scene_model::{Act, Scene};
@@ -139,10 +139,10 @@ impl Core {
 
     /// The clock of the application's next step, in ns, or after its last step that of one more; 0 where there is no such
     /// application. A schedule asks it, and nothing rests on it.
-    pub(crate) fn clock(&self, app: AppId) -> u64 {
+    pub(crate) fn clock(&self, app: AppId) -> Nanos {
         match self.machines.get(app.0 as usize) {
-            Some(machine) => machine.clock().0,
-            None => 0,
+            Some(machine) => machine.clock(),
+            None => Nanos(0),
         }
     }
 

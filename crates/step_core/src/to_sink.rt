@@ -8,10 +8,10 @@ ghost use Rattle.scene_model.specs.declared.row.Row.{Row};
 ghost use Rattle.run_logs.specs.QuickLines.{AreOfScene};
 ghost use Rattle.tick_plan.specs.Plans.{PlanFits};
 ghost use Rattle.step_core.specs.Cores.{BeginsLog, Released};
-ghost use Rattle.step_core.specs.Running.{HasRun, IsRunning, text_out};
+ghost use Rattle.step_core.specs.Running.{HasRun, IsRunning, TookTurn, text_out};
 
 use crate::scene_core::Core;
-use crate::schedule::{Schedule, do_turn};
+use crate::schedule::Schedule;
 use music_base::Sink;
 use run_logs::{LogWriter, WriteFault};
 use scene_model::Scene;
@@ -53,6 +53,17 @@ fn write_released<K: Sink>(
     log.write(alloc, scene, rows.as_slice(), sink)
 }
 
+/// A turn, where want of memory ends the writing of the log.
+fn take_turn(alloc: Global, core: &mut Core, schedule: &mut Schedule) -> Result<bool, WriteFault>
+    ensures turn { IfOk result (λ acted. TookTurn core.old acted core.new) }
+    ensures memory { IsErrOf result WriteFault.Sink → ⊥ }
+{
+    match schedule.take_turn(alloc, core) {
+        Ok(acted) => Ok(acted),
+        Err(_) => Err(WriteFault::Memory),
+    }
+}
+
 /// Has applications act in turn until none can, and writes rows whenever many are held.
 fn drive<K: Sink>(
     alloc: Global,
@@ -73,10 +84,7 @@ fn drive<K: Sink>(
     ensures stays { OnOk result (K.faults sink.new ≡ K.faults sink.old) }
     ensures never_falls { K.faults sink.old ≤ K.faults sink.new }
 {
-    while let Some(act) = schedule.next_act(scene, core) {
-        if do_turn(alloc, core, schedule, act).is_err() {
-            return Err(WriteFault::Memory);
-        }
+    while take_turn(alloc, core, schedule)? {
         if is_due(core) {
             write_released(alloc, scene, core, log, sink)?;
         }

@@ -5,8 +5,8 @@ use Rattle.scene_model.proofs.Finish.{left_of}
 use Rattle.step_core.specs.Running.{IsRunning, text_out}
 use Rattle.step_core.proofs.to_sink.drive.Given as goal
 
-abbrev pub invariant-loop-act : goal.invariant-loop-act
-invariant-loop-act g l = record {
+abbrev pub invariant-loop-core : goal.invariant-loop-core
+invariant-loop-core g l = record {
   running : IsRunning l.scene l.initial.core.limits l.core;
   took : (before : Option (List ℕ)) → Took before (text_out l.initial.core) (g.K.Sink.taken l.initial.sink) → Took before (text_out l.core) (g.K.Sink.taken l.sink);
   log : l.log ≡ l.initial.log;
@@ -14,5 +14,5 @@ invariant-loop-act g l = record {
 }
 
 -- each act takes one from what is left
-abbrev pub decreases-loop-act : goal.decreases-loop-act
-decreases-loop-act g l = left_of l.core.scene l.core.counts
+abbrev pub decreases-loop-core : goal.decreases-loop-core
+decreases-loop-core g l = left_of l.core.scene l.core.counts

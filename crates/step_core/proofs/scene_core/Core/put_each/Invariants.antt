@@ -1,5 +1,5 @@
-use Rattle.step_core.specs.Running.{WentOn}
+use Rattle.step_core.specs.Running.{Went}
 use Rattle.step_core.proofs.scene_core.Core.put_each.Given as goal
 
-abbrev pub invariant-loop-link : goal.invariant-loop-link
-invariant-loop-link l = WentOn l.initial.self l.self
+abbrev pub invariant-loop-own : goal.invariant-loop-own
+invariant-loop-own l = Went l.initial.self l.acted l.self

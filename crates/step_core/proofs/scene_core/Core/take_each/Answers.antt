@@ -1,8 +1,5 @@
-use Rattle.step_core.proofs.Going.{then_done}
+use Rattle.step_core.proofs.Going.{went_then}
 use Rattle.step_core.proofs.scene_core.Core.take_each.Goals as goal
 
-pub loop-link-preserved : goal.loop-link-preserved
-loop-link-preserved c = then_done c.args.self.now c.loop-link.self c.take_one.new.self c.loop-link.invariant c.take_one.ensures
-
-pub returns-in_err-acted : goal.returns-in_err-acted
-returns-in_err-acted c = then_done c.args.self.now c.loop-link.self c.take_one.new.self c.loop-link.invariant c.take_one.ensures
+pub loop-own-preserved : goal.loop-own-preserved
+loop-own-preserved c = went_then c.args.self.now c.loop-own.acted c.loop-own.self c.in_ok-acted.field-0 c.take_one.new.self c.loop-own.invariant c.in_ok-acted.ensures
