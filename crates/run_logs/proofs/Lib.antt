@@ -3,7 +3,6 @@ pub mod PlainTexts
 pub mod Batches
 pub mod ReadyLines
 pub mod Tables
-pub mod Steps
 pub mod Nexts
 pub mod Merges
 pub mod Held

@@ -1,8 +1,9 @@
 -- Rows that are held, application by application, until none can come before them.
-use Rattle.std.specs.Prelude.{◌≡◌, ◌<◌, ◌≤◌, ◌+◌, ℕ, Bool, true, false, not, nat_le, nat_lt, List, [], ◌∷◌, ◌++◌, map, length, slice_index_or, Option, None, Some}
-use Rattle.std.specs.List.{AllByRecursion}
+use Rattle.std.specs.Prelude.{◌≡◌, ◌<◌, ◌≤◌, ℕ, Bool, true, false, not, nat_le, nat_lt, min, List, [], ◌∷◌, ◌++◌, map, length, slice_index_or, Option, None, Some}
+use Rattle.std.specs.List.{AllByRecursion, filter, flat_map}
 use Rattle.std.specs.Ordering.{is_gt}
 use Rattle.std.specs.declared.cmp.Ordering.{Ordering}
+use Rattle.music_base.specs.Numbers.{in_order}
 use Rattle.scene_model.specs.Logs.{row_cmp}
 use Rattle.scene_model.specs.declared.row.Row.{Row}
 
@@ -57,7 +58,7 @@ HaveClock clock rows = AllByRecursion (λ row. row.clock ≡ clock) rows
 abbrev pub HaveRows : List (List Row) → Type 0
 HaveRows lists = AllByRecursion (λ rows. 0 < length rows) lists
 
--- ---- the next step
+-- ---- clock by clock
 
 -- the clock of the first row
 abbrev pub first_clock : List Row → Option ℕ
@@ -69,19 +70,26 @@ abbrev pub begins_from : ℕ → List Row → Bool
 begins_from clock [] = true
 begins_from clock (row ∷ rows) = nat_le clock row.clock
 
--- The next rows to be released are at the front of application `place`: their clock is below `least`, no application
--- has rows of a lower clock, and none of a lower place has rows of this clock.
-pub record IsNext (held : List (List Row)) (least place clock : ℕ) : Type 0 where
-  pub within : place < length held
-  pub below : clock < least
-  pub first : first_clock (rows_of held place) ≡ Some clock
-  pub lowest : (i : ℕ) → begins_from clock (rows_of held i) ≡ true
-  pub earlier : (i : ℕ) → i < place → begins_from (clock + 1) (rows_of held i) ≡ true
+-- the lower of a bound and a clock, if there is one
+abbrev pub lower_of : ℕ → Option ℕ → ℕ
+lower_of bound None = bound
+lower_of bound (Some clock) = min bound clock
 
--- some rows of this clock went from the front of `old`, which leaves `new`, to the end of `before`, which gives `after`
+-- the least clock of the first rows of all applications, or the bound where none is lower
+abbrev pub least_front : ℕ → List (List Row) → ℕ
+least_front bound [] = bound
+least_front bound (rows ∷ held) = least_front (lower_of bound (first_clock rows)) held
+
+-- rows of this clock, perhaps none, went from the front of `old`, which leaves `new`, to the end of `before`, which gives
+-- `after`
 pub record AreMoved (clock : ℕ) (old new before after : List Row) : Type 0 where
   pub step : List Row
-  pub some : 0 < length step
   pub same : HaveClock clock step
   pub split : old ≡ step ++ new
   pub moved : after ≡ before ++ step
+
+-- Rows with clocks below `least` went from what was held to the end of what was released: with those that are left of
+-- them, in row order, this gives what it gave before, and the rows to be kept are still held.
+pub record AreMergedOn (least : ℕ) (old new : List (List Row)) (before after : List Row) : Type 0 where
+  pub released : after ++ in_order row_cmp (flat_map (filter (is_before least)) new) ≡ before ++ in_order row_cmp (flat_map (filter (is_before least)) old)
+  pub kept : map (filter (is_kept least)) new ≡ map (filter (is_kept least)) old

@@ -1,9 +1,9 @@
 //! The rows of all applications, merged.
-ghost use Rattle.std.specs.Prelude.{◌≡◌, ◌≤◌, ◌<◌, ◌+◌, ◌++◌, ℕ, [], length, map, slice_set, replicate, vec_len, vec_capacity, IfOk, IfSome, OnOk, OnErr, None, true};
+ghost use Rattle.std.specs.Prelude.{◌≡◌, ◌≤◌, ◌<◌, ◌+◌, ◌++◌, ℕ, [], length, map, slice_set, replicate, vec_len, vec_capacity, IfOk, IfSome, OnOk, OnErr, true};
 ghost use Rattle.std.specs.List.{AllByRecursion, filter, flat_map};
 ghost use Rattle.music_base.specs.Numbers.{in_order};
 ghost use Rattle.scene_model.specs.Logs.{row_cmp};
-ghost use Rattle.run_logs.specs.Merging.{AreRowsOf, IsNext, begins_from, held_by, is_before, is_kept, rows_of};
+ghost use Rattle.run_logs.specs.Merging.{AreMergedOn, AreRowsOf, begins_from, held_by, is_before, is_kept, least_front, rows_of};
 
 use crate::queue::Queue;
 use music_base::{AppId, Items, Nanos, NoMemory};
@@ -32,33 +32,15 @@ impl Model for RowMerger {
     ghost invariant = { λ m. AreQueues m.spare m.queues.items };
 }
 
-// Where the next rows to be released are, and their clock in ns.
-#[derive(Clone, Copy)]
-struct Next {
-    place: usize,
-    clock: u64,
-}
-
-/// The first rows of a clock below `least`, if there are any.
-fn next_step(queues: &[Queue], least: u64) -> Option<Next>
-    ensures none { result ≡ None → (i : ℕ) → begins_from least (rows_of (held_by queues.now) i) ≡ true }
-    ensures some { IfSome result (λ next. IsNext (held_by queues.now) least next.place next.clock) }
+/// The least clock of the first rows, or `least` where none is lower.
+fn least_clock(queues: &[Queue], least: u64) -> u64
+    ensures { result ≡ least_front least (held_by queues.now) }
 {
-    let mut first = None;
     let mut bound = least;
-    for (place, queue) in queues.iter().enumerate() {
-        if let Some(clock) = queue.clock_below(bound) {
-            bound = clock;
-            first = Some(place);
-        }
+    for queue in queues {
+        bound = queue.lower(bound);
     }
-    match first {
-        Some(place) => Some(Next {
-            place,
-            clock: bound,
-        }),
-        None => None,
-    }
+    bound
 }
 
 /// How many rows are held, or none where 64 bits cannot count them.
@@ -72,6 +54,28 @@ fn count_rows(queues: &[Queue]) -> Option<usize>
     Some(count)
 }
 
+/// Moves the rows of this clock, before which no row comes, behind `released`, application by application. Answers the next
+/// clock: the least of the rows that are left, or `least` where none is lower. There is room for all rows.
+fn move_clock(queues: &mut [Queue], clock: u64, least: u64, released: &mut Vec<Row>) -> u64
+    requires below { clock < least }
+    requires first { (i : ℕ) → begins_from clock (rows_of (held_by queues.old) i) ≡ true }
+    requires rows { (b : ℕ) → AreRowsOf b (rows_of (held_by queues.old) b) }
+    requires room { vec_len released.old + length (flat_map (λ rows. rows) (held_by queues.old)) ≤ vec_capacity released.old }
+    ensures merged { AreMergedOn least (held_by queues.old) (held_by queues.new) released.old.items released.new.items }
+    ensures spare { map (λ queue. queue.spare) queues.new ≡ map (λ queue. queue.spare) queues.old }
+    ensures rows { (b : ℕ) → AreRowsOf b (rows_of (held_by queues.new) b) }
+    ensures room { vec_len released.new + length (flat_map (λ rows. rows) (held_by queues.new)) ≤ vec_capacity released.new }
+    ensures next { result ≡ least_front least (held_by queues.new) }
+    ensures above { clock < result }
+{
+    let mut next = least;
+    for queue in queues {
+        queue.move_step(clock, released);
+        next = queue.lower(next);
+    }
+    next
+}
+
 /// Moves the rows of clocks below `least` behind `released`, in row order. There is room for all rows.
 fn merge(queues: &mut [Queue], least: u64, released: &mut Vec<Row>)
     requires rows { (b : ℕ) → AreRowsOf b (rows_of (held_by queues.old) b) }
@@ -81,8 +85,9 @@ fn merge(queues: &mut [Queue], least: u64, released: &mut Vec<Row>)
     ensures spare { map (λ queue. queue.spare) queues.new ≡ map (λ queue. queue.spare) queues.old }
     ensures rows { (b : ℕ) → AreRowsOf b (rows_of (held_by queues.new) b) }
 {
-    while let Some(next) = next_step(queues, least) {
-        queues[next.place].move_step(next.clock, released);
+    let mut clock = least_clock(queues, least);
+    while clock < least {
+        clock = move_clock(queues, clock, least, released);
     }
 }
 
@@ -154,7 +159,7 @@ impl RowMerger {
         ensures spare { self.new.spare ≡ self.old.spare }
         ensures err { OnErr result (self.new ≡ self.old) }
     {
-        if next_step(&self.queues, least.0).is_none() {
+        if least_clock(&self.queues, least.0) == least.0 {
             return Ok(Items::new(alloc));
         }
         // So many rows that 64 bits cannot count them have no room in memory either.

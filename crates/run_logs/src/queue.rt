@@ -1,9 +1,9 @@
 //! The rows that are held of one application.
-ghost use Rattle.std.specs.Prelude.{◌≡◌, ◌<◌, ◌≤◌, ◌+◌, ◌-◌, ◌++◌, ◌∷◌, [], length, vec_len, vec_capacity, Some, true, IfNone, IfSome, OnOk, OnErr};
+ghost use Rattle.std.specs.Prelude.{◌≡◌, ◌≢◌, ◌<◌, ◌≤◌, ◌+◌, ◌-◌, ◌++◌, ◌∷◌, [], length, vec_len, vec_capacity, Some, true, IfNone, IfSome, OnOk, OnErr};
 ghost use Rattle.std.specs.List.{AllByRecursion, flat_map};
 ghost use Rattle.std.specs.Option.{option_to_list};
 ghost use Rattle.std.specs.VecDeque.{deque_capacity, deque_len};
-ghost use Rattle.run_logs.specs.Merging.{AreMoved, HaveClock, HaveRows, begins_from, first_clock};
+ghost use Rattle.run_logs.specs.Merging.{AreMoved, HaveClock, HaveRows, first_clock, lower_of};
 
 use music_base::{Items, NoMemory};
 use scene_model::Row;
@@ -171,14 +171,15 @@ impl Queue {
         self.front
     }
 
-    /// The clock of the first row, where it is below the bound.
+    /// The clock of the first row, or the bound where no row is there or the clock is no lower.
     #[inline]
-    pub fn clock_below(&self, bound: u64) -> Option<u64>
-        ensures none { IfNone result (begins_from bound self.now.rows ≡ true) }
-        ensures first { IfSome result (λ clock. first_clock self.now.rows ≡ Some clock) }
-        ensures below { IfSome result (λ clock. clock < bound) }
+    pub fn lower(&self, bound: u64) -> u64
+        ensures { result ≡ lower_of bound (first_clock self.now.rows) }
     {
-        self.first_clock().filter(|clock| *clock < bound)
+        match self.first_clock() {
+            Some(clock) => bound.min(clock),
+            None => bound,
+        }
     }
 
     /// Takes the first row off.
@@ -211,6 +212,7 @@ impl Queue {
         requires first { first_clock self.old.rows ≡ Some clock }
         requires room { vec_len to.old + length self.old.rows ≤ vec_capacity to.old }
         ensures moved { AreMoved clock self.old.rows self.new.rows to.old.items to.new.items }
+        ensures some { length self.new.rows < length self.old.rows }
         ensures spare { self.new.spare ≡ self.old.spare }
         ensures room { vec_capacity to.old ≤ vec_capacity to.new }
     {
@@ -223,12 +225,12 @@ impl Queue {
         }
     }
 
-    /// Moves the first rows, which have this clock, behind those of `to`. There is room for all rows, so that it takes
-    /// no memory.
+    /// Moves the first rows, as long as they have this clock, behind those of `to`. There is room for all rows, so that it
+    /// takes no memory.
     pub fn move_step(&mut self, clock: u64, to: &mut Vec<Row>)
-        requires first { first_clock self.old.rows ≡ Some clock }
-        requires room { vec_len to.old + length self.old.rows ≤ vec_capacity to.old }
+        requires { vec_len to.old + length self.old.rows ≤ vec_capacity to.old }
         ensures moved { AreMoved clock self.old.rows self.new.rows to.old.items to.new.items }
+        ensures left { first_clock self.new.rows ≢ Some clock }
         ensures spare { self.new.spare ≡ self.old.spare }
         ensures room { vec_capacity to.old ≤ vec_capacity to.new }
     {

@@ -1,13 +1,9 @@
-use Rattle.std.proofs.Common.{◌≡◌, ◌∙◌, [], ℕ, true, false, not, refl, None, Some, List, map, ap, sym, length, vec_len}
-use Rattle.std.specs.Prelude.{Option, is_some}
+use Rattle.std.proofs.Common.{◌≡◌, ◌∙◌, [], ℕ, true, List, map, ap, sym, length, vec_len, arith}
 use Rattle.run_logs.specs.Merging.{AreQueues, HeldRows, begins_from, held_by, rows_of}
 use Rattle.run_logs.proofs.Held.{queues_left, written_back}
+use Rattle.run_logs.proofs.Nexts.{all_begin_later}
 use Rattle.run_logs.proofs.Merged.{IsMerged, all_merged, none_merged}
 use Rattle.run_logs.proofs.merging.RowMerger.release.Goals as goal
-
-none_there : {X : Type 0} (o : Option X) → is_some o ≡ false → o ≡ None
-none_there None is = refl
-none_there (Some x) is = absurd cc
 
 -- nothing is released where no row is below `least`
 nothing_merged : (spare least : ℕ) (held : HeldRows) (queues first : List _) → held ≡ record { held = held_by first; spare = spare } → queues ≡ first → AreQueues spare first
@@ -15,16 +11,16 @@ nothing_merged : (spare least : ℕ) (held : HeldRows) (queues first : List _) �
 nothing_merged spare least held queues first view is are past =
     rw (view, ← is) (all_merged least (held_by queues) (held_by queues) [] [] past (none_merged least (held_by queues) [] (rw is are.rows)))
 
-pub returns-then-is_none-clause-released : goal.returns-then-is_none-clause-released
-returns-then-is_none-clause-released c =
-    let none : c.next_step.result ≡ None = none_there c.next_step.result (c.is_none.ensures ∙ ap not c.if-is_none.true) in
-    let merged = nothing_merged c.self.inside.spare c.least.inside.0 c.args.self.now c.deref.result.now c.self.inside.queues.items (sym c.self.view_is) c.deref.ensures.value c.self.invariant (c.next_step.ensures.none none) in
+pub returns-then-least_clock-least-clause-released : goal.returns-then-least_clock-least-clause-released
+returns-then-least_clock-least-clause-released c =
+    let past = all_begin_later c.least.inside.0 c.least_clock.result (held_by c.deref.result.now) c.least_clock.ensures (omega (arith, c.if-least_clock-least.true)) in
+    let merged = nothing_merged c.self.inside.spare c.least.inside.0 c.args.self.now c.deref.result.now c.self.inside.queues.items (sym c.self.view_is) c.deref.ensures.value c.self.invariant past in
     rw (← c.least.view_is) (c.new.ensures ∙ merged.released)
 
-pub returns-then-is_none-clause-kept : goal.returns-then-is_none-clause-kept
-returns-then-is_none-clause-kept c =
-    let none : c.next_step.result ≡ None = none_there c.next_step.result (c.is_none.ensures ∙ ap not c.if-is_none.true) in
-    let merged = nothing_merged c.self.inside.spare c.least.inside.0 c.args.self.now c.deref.result.now c.self.inside.queues.items (sym c.self.view_is) c.deref.ensures.value c.self.invariant (c.next_step.ensures.none none) in
+pub returns-then-least_clock-least-clause-kept : goal.returns-then-least_clock-least-clause-kept
+returns-then-least_clock-least-clause-kept c =
+    let past = all_begin_later c.least.inside.0 c.least_clock.result (held_by c.deref.result.now) c.least_clock.ensures (omega (arith, c.if-least_clock-least.true)) in
+    let merged = nothing_merged c.self.inside.spare c.least.inside.0 c.args.self.now c.deref.result.now c.self.inside.queues.items (sym c.self.view_is) c.deref.ensures.value c.self.invariant past in
     rw (← c.least.view_is) merged.kept
 
 pub invariant_of-self : goal.invariant_of-self
