@@ -8,3 +8,4 @@ pub mod Merges
 pub mod Held
 pub mod Merged
 pub mod Digits
+pub mod DigitCounts

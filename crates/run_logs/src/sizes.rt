@@ -13,22 +13,29 @@ use music_base::NoMemory;
 use scene_model::{PortKind, Row, RowItem, Scene};
 use std::alloc::Global;
 
-/// How many decimal digits a number of at most four has.
-#[inline]
-fn short_size(number: u64) -> usize
-    requires { number < 10_000 }
-    ensures { result ≡ length (decimal number) }
-{
-    if number < 10 {
-        1
-    } else if number < 100 {
-        2
-    } else if number < 1000 {
-        3
-    } else {
-        4
-    }
-}
+// The powers of ten that 64 bits can hold.
+static POWERS: [u64; 20] = [
+    1,
+    10,
+    100,
+    1_000,
+    10_000,
+    100_000,
+    1_000_000,
+    10_000_000,
+    100_000_000,
+    1_000_000_000,
+    10_000_000_000,
+    100_000_000_000,
+    1_000_000_000_000,
+    10_000_000_000_000,
+    100_000_000_000_000,
+    1_000_000_000_000_000,
+    10_000_000_000_000_000,
+    100_000_000_000_000_000,
+    1_000_000_000_000_000_000,
+    10_000_000_000_000_000_000,
+];
 
 /// How many decimal digits a number has.
 #[inline]
@@ -36,13 +43,16 @@ fn size_of(number: u64) -> usize
     ensures size { result ≡ length (decimal number) }
     ensures short { result ≤ 20 }
 {
-    let mut size = 0;
-    let mut rest = number;
-    while rest >= 10_000 {
-        rest /= 10_000;
-        size += 4;
+    // 0 has one digit, as 1 has. The logarithm of 2 to base 10 is about 1233 / 4096, so that a number of so many bits has
+    // `least` digits or one more.
+    let counted = number.max(1);
+    let bits = counted.ilog2() as usize + 1;
+    let least = bits * 1233 / 4096;
+    if counted < POWERS[least] {
+        least
+    } else {
+        least + 1
     }
-    size + short_size(rest)
 }
 
 /// How many decimal digits a number has, with the '-' of one that is negative.
