@@ -27,11 +27,15 @@ fn exact_ramp(start: i64, by: i64, step: u64) -> i128
 }
 
 /// The value of a ramp in a step.
+#[tactic(auto, unfolding(scene_model::specs::Turns::saturated))]
 fn ramp(start: Sample, by: Sample, step: u64) -> Sample
     requires { step < 10 ^ 6 }
     ensures { result ≡ saturated (start +ℤ by *ℤ pos step) }
 {
-    held(exact_ramp(start.0, by.0, step))
+    match by.0.checked_mul(step as i64) {
+        Some(rise) => Sample(start.0.saturating_add(rise)),
+        None => held(exact_ramp(start.0, by.0, step)),
+    }
 }
 
 /// How a value is copied: times the numerator, by the denominator and rounded down, and added to.
@@ -64,12 +68,35 @@ fn exact_scaled(value: i64, numerator: i32, denominator: u32, add: i64) -> i128
     quotient(value, numerator, denominator) + i128::from(add)
 }
 
+/// A scaled value, by the 128 bits that each product fits.
+#[tactic(auto, unfolding(crate::specs::OneRule::scaled))]
+fn scaled_widely(value: Sample, scale: &Scale) -> Sample
+    requires { 1 ≤ scale.now.denominator }
+    ensures { result ≡ scaled scale.now.numerator scale.now.denominator scale.now.add value }
+{
+    held(exact_scaled(value.0, scale.numerator, scale.denominator, scale.add.0))
+}
+
+/// What a product of 64 bits comes to, divided and added to.
+#[tactic(auto, unfolding(scene_model::specs::Turns::saturated))]
+fn divided(product: i64, denominator: u32, add: Sample) -> Sample
+    requires { 1 ≤ denominator }
+    ensures { result ≡ saturated (floor_div product denominator +ℤ add) }
+{
+    let quotient = product.div_euclid(i64::from(denominator));
+    Sample(quotient.saturating_add(add.0))
+}
+
+/// A scaled value. Most products fit 64 bits, where a division costs much less than in 128.
 #[tactic(auto, unfolding(crate::specs::OneRule::scaled))]
 fn scaled(value: Sample, scale: &Scale) -> Sample
     requires { 1 ≤ scale.now.denominator }
     ensures { result ≡ scaled scale.now.numerator scale.now.denominator scale.now.add value }
 {
-    held(exact_scaled(value.0, scale.numerator, scale.denominator, scale.add.0))
+    match value.0.checked_mul(i64::from(scale.numerator)) {
+        Some(product) => divided(product, scale.denominator, scale.add),
+        None => scaled_widely(value, scale),
+    }
 }
 
 /// The value at a place of a block, where that is one of this index.
