@@ -1,9 +1,9 @@
 -- Values of which the indices ascend.
 use Rattle.std.proofs.Common.{◌≡◌, ℕ, zero, suc, ◌+◌, ◌<◌, ◌≤◌, true, false, List, [], ◌∷◌, ◌++◌, length, get_or, drop, take, set, add-one, append_assoc, unwrap_or, refl, sym, ap, ◌∙◌, inl, inr, arith, ℤ, pos, Option, Some, None}
 use Rattle.std.specs.Prelude.{slice_get, ◌==◌, if◌then◌else◌, option_map}
-use Rattle.std.proofs.lemmas.Bool.{cases_Bool, cases_eq, eq-eqb, ne_eqb, ltb-true, ltb-false}
+use Rattle.std.proofs.lemmas.Bool.{cases_Bool, cases_eq, eq-eqb, ne_eqb}
 use Rattle.std.proofs.Math.Seq.{take-suc, take-suc-set}
-use Rattle.std.proofs.lemmas.List.{drop-set-lt}
+use Rattle.std.proofs.lemmas.List.{at_drop_all, drop-set-lt}
 use Rattle.music_base.specs.Items.{AreValues}
 use Rattle.music_base.specs.declared.item.Item.{Item}
 use Rattle.music_base.specs.declared.item.Item.TheVariants.{Event, Value, Message}
@@ -12,7 +12,7 @@ use Rattle.index_maps.proofs.Ascending.{Ascends}
 use Rattle.scene_model.proofs.ProperLives.{are_values}
 use Rattle.rule_turns.specs.OneRule.{copied, found_value, scaled}
 use Rattle.rule_turns.specs.Plans.{index_place}
-use Rattle.rule_turns.specs.Turning.{AreAscending, is_value_below, overlay, value_of, zeros}
+use Rattle.rule_turns.specs.Turning.{AreAscending, overlay, value_of, zeros}
 
 -- ---- from ascending indices
 
@@ -155,34 +155,39 @@ found_value-low g least (Value global value ∷ items) lt up =
 found_value-low g least (Event e ∷ items) lt up = absurd up
 found_value-low g least (Message m ∷ items) lt up = absurd up
 
--- a value below an index is none of those from the index on
-skipped_value : (index g : ℕ) (item : Item) (items : List Item) → is_value_below index item ≡ true → index ≤ g → found_value (item ∷ items) g ≡ found_value items g
-skipped_value index g (Value global value) items below le =
-    let lt : global < index = ltb-true global index below in
-    let other : (global == g) ≡ false = ne_eqb global g (λ e. absurd (omega (arith, e))) in
-    rw other refl
-skipped_value index g (Event e) items below le = refl
-skipped_value index g (Message m) items below le = refl
+-- the value that stands at a place is found from there on
+pub found_value-here : (g : ℕ) (v : ℤ) (block : List Item) (place : ℕ) (d : Item) → place < length block → get_or block place d ≡ Value g v
+    → found_value (drop place block) g ≡ Some v
+found_value-here g v block place d lt is = let same : (g == g) ≡ true = eq-eqb g g refl in rw (drop_next block place d lt, is, same) refl
 
-pub found_value-next : (index g : ℕ) (block : List Item) (place : ℕ) (d : Item) → place < length block → is_value_below index (get_or block place d) ≡ true → index ≤ g
+-- and no other index
+pub found_value-next : (h g : ℕ) (v : ℤ) (block : List Item) (place : ℕ) (d : Item) → place < length block → get_or block place d ≡ Value h v → h < g
     → found_value (drop place block) g ≡ found_value (drop (place + 1) block) g
-found_value-next index g block place d lt below le = rw (drop_next block place d lt) (skipped_value index g (get_or block place d) (drop (place + 1) block) below le)
+found_value-next h g v block place d lt is below =
+    let other : (h == g) ≡ false = ne_eqb h g (λ e. absurd (omega (arith, e))) in
+    rw (drop_next block place d lt, is, other) refl
 
--- where no value below the index stands first, it stands first or not at all
-pub found_value-first : (index least : ℕ) (block : List Item) (place : ℕ) (d : Item) → place < length block → AreAscending least block → is_value_below index (get_or block place d) ≡ false
-    → found_value (drop place block) index ≡ value_of index (slice_get block place)
-found_value-first index least [] place d lt up stays = absurd (omega arith)
-found_value-first index least (Value global value ∷ items) zero d lt up stays =
-    let ge : index ≤ global = ltb-false global index stays in
-    elim (cases_Bool (global == index)) [
-      | inl t ↦ rw t refl
-      | inr f ↦ rw f (found_value-low index (global + 1) items (omega arith) up.1)
-    ]
-found_value-first index least (Value global value ∷ items) (suc place) d lt up stays = found_value-first index (global + 1) items place d (omega arith) up.1 stays
-found_value-first index least (Event e ∷ items) place d lt up stays = absurd up
-found_value-first index least (Message m ∷ items) place d lt up stays = absurd up
+-- an item that is no value has no index
+no_value : (g : ℕ) (item : Item) (items : List Item) → ((h : ℕ) (v : ℤ) → item ≡ Value h v → ⊥) → found_value (item ∷ items) g ≡ found_value items g
+no_value g (Value h v) items none = absurd (none h v refl)
+no_value g (Event e) items none = refl
+no_value g (Message m) items none = refl
+
+pub found_value-none : (g : ℕ) (block : List Item) (place : ℕ) (d : Item) → place < length block → ((h : ℕ) (v : ℤ) → get_or block place d ≡ Value h v → ⊥)
+    → found_value (drop place block) g ≡ found_value (drop (place + 1) block) g
+found_value-none g block place d lt none = rw (drop_next block place d lt) (no_value g (get_or block place d) (drop (place + 1) block) none)
+
+-- where a higher index stands first, a lower one is not there any more
+pub found_value-above : (index least : ℕ) (block : List Item) (place h : ℕ) (v : ℤ) (d : Item) → place < length block → AreAscending least block
+    → get_or block place d ≡ Value h v → index < h → found_value (drop place block) index ≡ None
+found_value-above index least [] place h v d lt up is low = absurd (omega arith)
+found_value-above index least (item ∷ items) zero h v d lt up is low =
+    let whole : AreAscending least (Value h v ∷ items) = rw is at up in
+    rw is (found_value-low index h (Value h v ∷ items) low (omega arith, whole.1))
+found_value-above index least (Value global value ∷ items) (suc place) h v d lt up is low = found_value-above index (global + 1) items place h v d (omega arith) up.1 is low
+found_value-above index least (Event e ∷ items) (suc place) h v d lt up is low = absurd up
+found_value-above index least (Message m ∷ items) (suc place) h v d lt up is low = absurd up
 
 -- nothing stands past the end
-pub found_value-past : (g : ℕ) (block : List Item) → found_value (drop (length block) block) g ≡ value_of g (slice_get block (length block))
-found_value-past g [] = refl
-found_value-past g (item ∷ items) = found_value-past g items
+pub found_value-past : (g : ℕ) (block : List Item) (place : ℕ) → length block ≤ place → found_value (drop place block) g ≡ None
+found_value-past g block place past = at_drop_all (λ (items : List Item). found_value items g) block place past

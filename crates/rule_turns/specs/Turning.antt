@@ -1,5 +1,5 @@
 -- The turn of one step by a plan, and what a turn asks.
-use Rattle.std.specs.Prelude.{ℕ, ◌≡◌, ◌*◌, ◌+◌, ◌^◌, ◌<◌, ◌≤◌, ◌==◌, if◌then◌else◌, int_lt, nat_lt, Bool, true, false, List, [], ◌∷◌, map, length, slice_get, slice_index_or, ℤ, pos, Option, None, Some, unwrap_or, ⊤}
+use Rattle.std.specs.Prelude.{ℕ, ◌≡◌, ◌*◌, ◌+◌, ◌^◌, ◌<◌, ◌≤◌, ◌==◌, if◌then◌else◌, int_lt, Bool, true, false, List, [], ◌∷◌, map, length, slice_get, slice_index_or, ℤ, pos, Option, None, Some, unwrap_or, ⊤}
 use Rattle.std.specs.List.{flat_map, list_all, AllByRecursion}
 use Rattle.music_base.specs.Items.{AreValues}
 use Rattle.music_base.specs.declared.item.Item.{Item}
@@ -148,11 +148,6 @@ abbrev pub AreAscending : ℕ → List Item → Type 0
 AreAscending least [] = ⊤
 AreAscending least (Value global value ∷ items) = (least ≤ global) × AreAscending (global + 1) items
 AreAscending least (_ ∷ items) = ⊥
-
--- a value of an index that is below this one
-abbrev pub is_value_below : ℕ → Item → Bool
-is_value_below index (Value global value) = nat_lt global index
-is_value_below index _ = false
 
 -- a rule finds its index at its place in the block that it writes or reads, and what it copies ascends
 abbrev pub IsPlacedIn : List ℕ → List Item → ℕ → Rule → Type 0

@@ -6,7 +6,7 @@ ghost use Rattle.music_base.specs.declared.item.Item.TheVariants.{Value};
 ghost use Rattle.scene_model.specs.Turns.{saturated};
 ghost use Rattle.rule_turns.specs.OneRule.{copied, found_value, gives, scaled};
 ghost use Rattle.rule_turns.specs.Plans.{index_place};
-ghost use Rattle.rule_turns.specs.Turning.{AreAscending, HasNumbers, IsPlacedIn, is_value_below, overlay, value_of};
+ghost use Rattle.rule_turns.specs.Turning.{AreAscending, HasNumbers, IsPlacedIn, overlay, value_of};
 
 use music_base::{Item, Sample};
 use scene_model::Rule;
@@ -122,28 +122,39 @@ fn set_at(items: &mut [Item], place: usize, index: u32, value: Sample)
     }
 }
 
-/// A value of an index that is below this one.
-fn is_below(item: &Item, index: u32) -> bool
-    ensures { result ≡ is_value_below index item.now }
-{
-    match item {
-        Item::Value { global, .. } => *global < index,
-        _ => false,
-    }
+/// What a search in a block came to: the value, where there is one, and the place from which the next search goes on.
+#[derive(Clone, Copy)]
+struct Found {
+    value: Option<Sample>,
+    next: usize,
 }
 
-/// From a place of a block on, the first that has no value of an index below this one, or the length of the block.
-fn place_from(block: &[Item], near: usize, index: u32) -> usize
+/// The value of an index, looked for from a place of a block on. The next index that is looked for is a higher one.
+fn find_from(block: &[Item], near: usize, index: u32) -> Found
     requires { AreAscending 0 block.now }
-    ensures skipped { (g : ℕ) → index ≤ g → found_value (drop near block.now) g ≡ found_value (drop result block.now) g }
-    ensures found { found_value (drop result block.now) index ≡ value_of index (slice_get block.now result) }
+    ensures value { result.value ≡ found_value (drop near block.now) index }
+    ensures next { (g : ℕ) → index < g → found_value (drop near block.now) g ≡ found_value (drop result.next block.now) g }
 {
     for place in near..block.len() {
-        if !is_below(&block[place], index) {
-            return place;
+        if let Item::Value { global, value } = &block[place] {
+            if *global == index {
+                return Found {
+                    value: Some(*value),
+                    next: place + 1,
+                };
+            }
+            if index < *global {
+                return Found {
+                    value: None,
+                    next: place,
+                };
+            }
         }
     }
-    block.len()
+    Found {
+        value: None,
+        next: block.len(),
+    }
 }
 
 fn write_value(items: &mut [Item], place: usize, global: u32, value: Sample)
@@ -164,8 +175,9 @@ fn copy_values(items: &mut [Item], block: &[Item], scale: &Scale)
     for i in 0..items.len() {
         if let Item::Value { global, .. } = &items[i] {
             let global = *global;
-            near = place_from(block, near, global);
-            if let Some(value) = value_at(block, near, global) {
+            let found = find_from(block, near, global);
+            near = found.next;
+            if let Some(value) = found.value {
                 write_value(items, i, global, scaled(value, scale));
             }
         }
