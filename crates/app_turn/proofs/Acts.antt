@@ -1,6 +1,7 @@
 -- What taking and putting a block keep.
-use Rattle.std.proofs.Common.{ℕ, suc, ◌+◌, ◌-◌, ◌^◌, ◌<◌, ◌≤◌, ◌≡◌, ◌⊎◌, inl, inr, refl, sym, ◌∙◌, ap, subst, arith, min, Bool, true, false, List, length, get_or-set_same, get_or-set_other, slice_set, Option, None, Some}
+use Rattle.std.proofs.Common.{ℕ, suc, ◌+◌, ◌-◌, ◌^◌, ◌<◌, ◌≤◌, ◌≡◌, ◌⊎◌, inl, inr, refl, sym, ◌∙◌, ap, subst, arith, min, Bool, true, false, List, length, map, get_or-set_same, get_or-set_other, slice_set, Option, None, Some}
 use Rattle.std.specs.Prelude.{slice_index, slice_index_or, IfSome, IsTrue, ◌↔◌}
+use Rattle.std.specs.List.{AllByRecursion}
 use Rattle.std.proofs.lemmas.Bool.{cases_eq}
 use Rattle.std.proofs.lemmas.List.{get_or_read, set-set, set-get_or}
 use Rattle.std.proofs.Math.ListN.{length-set}
@@ -20,8 +21,11 @@ use Rattle.app_turn.specs.Machines.{Follows, HasFinished, IsNext, IsPending, IsP
 use Rattle.app_turn.specs.Moves.{Gave, Took}
 use Rattle.app_turn.specs.PortInboxes.{AreInboxes, AreKept, HasPlace, IsRoomier, admitted_by, inbox_at, waiting_in, with_admitted}
 use Rattle.app_turn.specs.Steps.{IsMachine, Parts}
+use Rattle.app_turn.specs.Paces.{IsPace, pace_of}
+use Rattle.app_turn.specs.declared.needs.Pace.{Pace}
 use Rattle.app_turn.specs.declared.inbox.PortInbox.{PortInbox}
 use Rattle.app_turn.proofs.Places.{by_place-iff, into_listed, listed_small, out_listed}
+use Rattle.app_turn.proofs.Paces.{paces_bounds, paces_small}
 use Rattle.app_turn.proofs.Feeding.{fed_are, fed_kept, has_place, port_small, roomy_are, roomy_waiting}
 
 pub put_back : {X : Type 0} (xs : List X) (i : ℕ) (a b d : X) → slice_index_or xs i d ≡ b → slice_set (slice_set xs i a) i b ≡ xs
@@ -64,6 +68,7 @@ module _ (m : Machine) (x : Parts) (is : IsMachine m x) where
         truth_count = is.truth_count;
         planned = is.planned;
         comes_in = is.comes_in;
+        paced = is.paced;
         goes_out = is.goes_out;
         each_need = is.each_need;
         each_most = is.each_most;
@@ -110,6 +115,7 @@ module _ (m : Machine) (x : Parts) (is : IsMachine m x) where
             truth_count = is.truth_count;
             planned = is.planned;
             comes_in = is.comes_in;
+            paced = is.paced;
             goes_out = is.goes_out;
             each_need = is.each_need;
             each_most = is.each_most;
@@ -153,6 +159,7 @@ module _ (m : Machine) (x : Parts) (is : IsMachine m x) where
       truth_count = is.truth_count;
       planned = is.planned;
       comes_in = is.comes_in;
+      paced = is.paced;
       goes_out = is.goes_out;
       each_need = is.each_need;
       each_most = is.each_most;
@@ -207,6 +214,12 @@ module _ (m : Machine) (x : Parts) (is : IsMachine m x) where
   -- ---- its own connections
   pub into_small : (i : ℕ) → i < length x.into → slice_index x.into i < length m.scene.links
   into_small = listed_small (receiver m.scene) m.app (length m.scene.links) x.into (into_listed m.scene m.app x.into is.comes_in)
+
+  pub paces_fit : AllByRecursion IsPace (map (pace_of m.scene) x.into)
+  paces_fit = paces_bounds m.scene x.into is.faultless into_small
+
+  pub needs_small : AllByRecursion (λ (pace : Pace). pace.link < length x.needs) (map (pace_of m.scene) x.into)
+  needs_small = paces_small m.scene x.into (length x.needs) (λ i l. let small = into_small i l in omega (arith, small, is.need_count))
 
   pub out_small : (i : ℕ) → i < length x.out → slice_index x.out i < length m.scene.links
   out_small = listed_small (sender m.scene) m.app (length m.scene.links) x.out (out_listed m.scene m.app x.out is.goes_out)

@@ -7,6 +7,7 @@ pub mod Inputs
 pub mod Keeping
 pub mod Moves
 pub mod Openings
+pub mod Paces
 pub mod Places
 pub mod Ports
 pub mod RowParts

@@ -129,6 +129,7 @@ module _ (m : Machine) (x : Parts) (is : IsMachine m x) where
       truth_count = is.truth_count;
       planned = is.planned;
       comes_in = is.comes_in;
+      paced = is.paced;
       goes_out = is.goes_out;
       each_need = is.each_need;
       each_most = is.each_most;
@@ -169,6 +170,7 @@ module _ (m : Machine) (x : Parts) (is : IsMachine m x) where
         takes = is.takes;
         pendings = pendings;
         comes_in = is.comes_in;
+        paced = is.paced;
         goes_out = is.goes_out;
         need_count = need_count;
         most_count = is.most_count;

@@ -28,8 +28,10 @@ use Rattle.rule_turns.specs.Plans.{turn_plan}
 use Rattle.rule_turns.specs.declared.plan.TurnPlan.{TurnPlan}
 use Rattle.app_turn.specs.PortInboxes.{AreInboxes, IsFresh, IsPortInbox, admitted_by, inbox_at, left_by, waiting_in}
 use Rattle.app_turn.specs.OwnLinks.{IsPlaceOf, into_of, out_of, place_on}
+use Rattle.app_turn.specs.Paces.{pace_of}
 use Rattle.app_turn.specs.Steps.{IsMachine}
 use Rattle.app_turn.specs.declared.inbox.PortInbox.{PortInbox}
+use Rattle.app_turn.specs.declared.needs.Pace.{Pace}
 use Rattle.app_turn.specs.declared.inbox.PortInbox.TheVariants.{Silent, Unfed, Hears, Listens, Follows}
 use Rattle.app_turn.proofs.Keeping.{lead_at}
 use Rattle.app_turn.proofs.Places.{by_place, into_listed, listed_small, place_back, place_is}
@@ -85,11 +87,11 @@ module _ (scene : Scene) (fine : IsFaultless scene) (app : ℕ) (small : app < l
   abbrev pub opened : List Bool → Machine
   opened state = record { scene = scene; app = app; ran = 0; put = replicate (length scene.links) 0; taken = replicate (length scene.links) 0; state = state; waiting = waiting_in scene app 0 xs places; pending = replicate (length scene.links) None }
 
-  pub opened_is : (last : ℕ) (into out needs most : List ℕ) (plan : TurnPlan) → last ≡ steps scene app → into ≡ into_of scene app → out ≡ out_of scene app
+  pub opened_is : (last : ℕ) (into out needs most : List ℕ) (paces : List Pace) (plan : TurnPlan) → last ≡ steps scene app → into ≡ into_of scene app → paces ≡ map (pace_of scene) into → out ≡ out_of scene app
       → length needs ≡ length scene.links → EachTo scene app (λ c. slice_index needs c ≡ wanted scene c 0)
       → length most ≡ length scene.links → EachFrom scene app (λ c. slice_index most c ≡ wanted_blocks scene c) → plan ≡ turn_plan (app_at scene app).ports (app_at scene app).rules
-      → IsMachine (opened (opening (app_at scene app).rules)) (record { last = last; into = into; out = out; needs = needs; most = most; places = places; plan = plan; inboxes = xs })
-  opened_is last into out needs most plan is_last comes_in goes_out need_count each_need most_count each_most planned = record {
+      → IsMachine (opened (opening (app_at scene app).rules)) (record { last = last; into = into; paces = paces; out = out; needs = needs; most = most; places = places; plan = plan; inboxes = xs })
+  opened_is last into out needs most paces plan is_last comes_in paced goes_out need_count each_need most_count each_most planned = record {
     faultless = fine;
     here = small;
     all_steps = is_last;
@@ -103,6 +105,7 @@ module _ (scene : Scene) (fine : IsFaultless scene) (app : ℕ) (small : app < l
     truth_count = refl;
     planned = planned;
     comes_in = comes_in;
+    paced = paced;
     goes_out = goes_out;
     each_need = each_need;
     each_most = each_most;
@@ -137,13 +140,13 @@ module _ (scene : Scene) (fine : IsFaultless scene) (app : ℕ) (small : app < l
     opened_same : record { scene = scene; app = app; ran = 0; put = put; taken = taken; state = state; waiting = waiting_in scene app 0 xs places; pending = pending } ≡ opened (opening (app_at scene app).rules)
     opened_same = λ i. record { scene = scene; app = app; ran = 0; put = puts i; taken = takes i; state = truths i; waiting = waiting_in scene app 0 xs places; pending = pendings i }
 
-    pub opened_as : (last : ℕ) (into out needs most : List ℕ) (plan : TurnPlan) → last ≡ steps scene app → into ≡ into_of scene app → out ≡ out_of scene app
+    pub opened_as : (last : ℕ) (into out needs most : List ℕ) (paces : List Pace) (plan : TurnPlan) → last ≡ steps scene app → into ≡ into_of scene app → paces ≡ map (pace_of scene) into → out ≡ out_of scene app
         → length needs ≡ length scene.links → EachTo scene app (λ c. slice_index needs c ≡ wanted scene c 0)
         → length most ≡ length scene.links → EachFrom scene app (λ c. slice_index most c ≡ wanted_blocks scene c) → plan ≡ turn_plan (app_at scene app).ports (app_at scene app).rules
         → IsMachine (record { scene = scene; app = app; ran = 0; put = put; taken = taken; state = state; waiting = waiting_in scene app 0 xs places; pending = pending })
-        (record { last = last; into = into; out = out; needs = needs; most = most; places = places; plan = plan; inboxes = xs })
-    opened_as last into out needs most plan a b c d e f g h = subst (λ (m : Machine). IsMachine m (record { last = last; into = into; out = out; needs = needs; most = most; places = places; plan = plan; inboxes = xs })) (sym opened_same)
-        (opened_is last into out needs most plan a b c d e f g h)
+        (record { last = last; into = into; paces = paces; out = out; needs = needs; most = most; places = places; plan = plan; inboxes = xs })
+    opened_as last into out needs most paces plan a b c d e f g h i = subst (λ (m : Machine). IsMachine m (record { last = last; into = into; paces = paces; out = out; needs = needs; most = most; places = places; plan = plan; inboxes = xs })) (sym opened_same)
+        (opened_is last into out needs most paces plan a b c d e f g h i)
 
     pub started_as : IsStarted scene app (record { scene = scene; app = app; ran = 0; put = put; taken = taken; state = state; waiting = waiting_in scene app 0 xs places; pending = pending })
     started_as = subst (IsStarted scene app) (sym opened_same) opened_started

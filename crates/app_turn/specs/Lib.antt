@@ -2,6 +2,7 @@ pub mod ByRank
 pub mod Machines
 pub mod Moves
 pub mod OwnLinks
+pub mod Paces
 pub mod PortInboxes
 pub mod Rows
 pub mod Shapes

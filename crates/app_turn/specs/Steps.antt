@@ -15,8 +15,10 @@ use Rattle.rule_turns.specs.Turning.{AreInputs}
 use Rattle.rule_turns.specs.declared.plan.TurnPlan.{TurnPlan}
 use Rattle.app_turn.specs.Machines.{IsPendingAt, Machine, pending_on, put_by}
 use Rattle.app_turn.specs.OwnLinks.{into_of, out_of}
+use Rattle.app_turn.specs.Paces.{pace_of}
 use Rattle.app_turn.specs.PortInboxes.{AreInboxes, HoldsAt, inbox_at, waiting_in}
 use Rattle.app_turn.specs.declared.inbox.PortInbox.{PortInbox}
+use Rattle.app_turn.specs.declared.needs.Pace.{Pace}
 use Rattle.app_turn.specs.declared.step.Step.{Step}
 
 -- ---- one step
@@ -54,11 +56,13 @@ pub record IsStep (scene : Scene) (app j : ℕ) (most out : List ℕ) (before : 
 
 -- ---- the parts of a machine
 
--- beside what contracts see of a machine: how many steps there are; the connections to it and from it; by connection of the
--- scene how many blocks the next step needs, how many are wanted at all, and the place at its port; the plan, and the inboxes
+-- beside what contracts see of a machine: how many steps there are; the connections to it, their paces, and those from it; by
+-- connection of the scene how many blocks the next step needs, how many are wanted at all, and the place at its port; the plan,
+-- and the inboxes
 pub record Parts : Type 0 where
   pub last : ℕ
   pub into : List ℕ
+  pub paces : List Pace
   pub out : List ℕ
   pub needs : List ℕ
   pub most : List ℕ
@@ -76,6 +80,7 @@ pub record IsMachine (m : Machine) (x : Parts) : Type 0 where
   pub takes : length m.taken ≡ length m.scene.links
   pub pendings : length m.pending ≡ length m.scene.links
   pub comes_in : x.into ≡ into_of m.scene m.app
+  pub paced : x.paces ≡ map (pace_of m.scene) x.into
   pub goes_out : x.out ≡ out_of m.scene m.app
   pub need_count : length x.needs ≡ length m.scene.links
   pub most_count : length x.most ≡ length m.scene.links

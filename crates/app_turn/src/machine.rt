@@ -12,7 +12,7 @@ ghost use Rattle.app_turn.specs.Machines.{HasFinished, IsNext, IsPending, WantsP
 ghost use Rattle.app_turn.specs.Moves.{DidPut, DidTake, IsStarted, Ran};
 
 use crate::blocks::owe;
-use crate::needs::need;
+use crate::needs::{Pace, need, paces_of};
 use crate::opening::{inboxes_of, most_wanted, no_blocks, places_of, zeros};
 use crate::own_links::{all_put, all_taken, links_into, links_out_of, receives, sends};
 use crate::step::{Step, make_step};
@@ -40,6 +40,7 @@ pub struct AppMachine {
     ran: u64,
     last: u64,
     into: Vec<LinkId>,
+    paces: Vec<Pace>,
     out: Vec<LinkId>,
     needs: Vec<u64>,
     most: Vec<u64>,
@@ -63,7 +64,7 @@ impl Model for AppMachine {
 
     ghost view = { λ a. record { scene = arc_value a.scene; app = a.app; ran = a.ran; put = a.put.items; taken = a.taken.items; state = a.state; waiting = waiting_in (arc_value a.scene) a.app a.ran a.inboxes.items a.places.items; pending = a.pending.items } };
 
-    ghost invariant = { λ a. IsMachine (record { scene = arc_value a.scene; app = a.app; ran = a.ran; put = a.put.items; taken = a.taken.items; state = a.state; waiting = waiting_in (arc_value a.scene) a.app a.ran a.inboxes.items a.places.items; pending = a.pending.items }) (record { last = a.last; into = a.into.items; out = a.out.items; needs = a.needs.items; most = a.most.items; places = a.places.items; plan = a.plan; inboxes = a.inboxes.items }) };
+    ghost invariant = { λ a. IsMachine (record { scene = arc_value a.scene; app = a.app; ran = a.ran; put = a.put.items; taken = a.taken.items; state = a.state; waiting = waiting_in (arc_value a.scene) a.app a.ran a.inboxes.items a.places.items; pending = a.pending.items }) (record { last = a.last; into = a.into.items; paces = a.paces.items; out = a.out.items; needs = a.needs.items; most = a.most.items; places = a.places.items; plan = a.plan; inboxes = a.inboxes.items }) };
 }
 
 impl AppMachine {
@@ -118,9 +119,10 @@ impl AppMachine {
         let count = scene.links.len();
         let last = scene.app(app).steps();
         let into = links_into(alloc, &scene, app)?;
+        let paces = paces_of(alloc, &scene, &into)?;
         let out = links_out_of(alloc, &scene, app)?;
         let mut needs = zeros(alloc, count)?;
-        need(&scene, &into, 0, &mut needs);
+        need(&paces, 0, &mut needs);
         let most = most_wanted(alloc, &scene)?;
         let places = places_of(alloc, &scene)?;
         let put = zeros(alloc, count)?;
@@ -132,6 +134,7 @@ impl AppMachine {
             ran: 0,
             last,
             into,
+            paces,
             out,
             needs,
             most,
@@ -269,7 +272,7 @@ impl AppMachine {
         )?;
         let rules = self.scene.app(self.app).rules.as_slice();
         self.state.move_on(&self.plan, rules, &self.made.inputs);
-        need(&*self.scene, &self.into, self.ran + 1, &mut self.needs);
+        need(&self.paces, self.ran + 1, &mut self.needs);
         owe(&self.out, &mut self.made.blocks, &mut self.pending);
         self.ran += 1;
         Ok(replace(&mut self.made.rows, Items::new(alloc)))

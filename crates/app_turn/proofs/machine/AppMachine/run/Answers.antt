@@ -5,7 +5,7 @@ use Rattle.std.proofs.lemmas.Result.{MatchResult-from_err}
 use Rattle.scene_model.specs.Scenes.{app_at}
 use Rattle.scene_model.specs.declared.scene.AppDecl.{AppDecl}
 use Rattle.app_turn.specs.Steps.{block_for}
-use Rattle.app_turn.proofs.Acts.{into_small, out_pending, out_small}
+use Rattle.app_turn.proofs.Acts.{needs_small, out_pending, out_small, paces_fit}
 use Rattle.app_turn.proofs.Moves.{delivered_is, delivered_same, each_needed, each_owed, inboxes_wanted, moved_on, next_small, plan_whens, ran, ran_is, steps_small}
 use Rattle.app_turn.proofs.machine.AppMachine.run.Goals as goal
 
@@ -31,10 +31,13 @@ pub need-requires-clause-step : goal.need-requires-clause-step
 need-requires-clause-step c = next_small _ _ c.self.invariant (rw (← c.self.view_is) at c.requires)
 
 pub need-requires-clause-links : goal.need-requires-clause-links
-need-requires-clause-links c = rw (c.deref-6.ensures, c.deref-7.ensures.value) (into_small _ _ c.self.invariant)
+need-requires-clause-links c = rw (c.deref-6.ensures.value, c.self.invariant.paced) (needs_small _ _ c.self.invariant)
+
+pub need-requires-clause-paces : goal.need-requires-clause-paces
+need-requires-clause-paces c = rw (c.deref-6.ensures.value, c.self.invariant.paced) (paces_fit _ _ c.self.invariant)
 
 pub owe-requires-clause-links : goal.owe-requires-clause-links
-owe-requires-clause-links c = rw c.deref-8.ensures.value (out_pending _ _ c.self.invariant)
+owe-requires-clause-links c = rw c.deref-7.ensures.value (out_pending _ _ c.self.invariant)
 
 pub invariant_of-self-2 : goal.invariant_of-self-2
 invariant_of-self-2 c =
@@ -44,8 +47,8 @@ invariant_of-self-2 c =
     let rules : c.as_slice-rules.result.now ≡ (app_at scene c.self.inside.app).rules = c.as_slice-rules.ensures ∙ ap (λ (a : AppDecl). a.rules) (rw c.deref-4.ensures at c.app.ensures) in
     let next = moved_on _ _ c.self.invariant c.as_slice-rules.result.now c.self.inside.plan c.make_step.new.made.inputs.items c.move_on.new.self rules refl made.shaped
     (λ n can shaped planned same. c.move_on.ensures.moved n can shaped planned (same ∙ sym c.deref-5.ensures.value)) in
-    let needs = each_needed _ _ c.self.invariant c.need.new.needs.items (c.self.inside.ran + 1) (rw (c.deref-6.ensures, c.deref-7.ensures.value) at c.need.ensures.each) in
-    let each = rw c.deref-8.ensures.value at c.owe.ensures.each in
+    let needs = each_needed _ _ c.self.invariant c.need.new.needs.items (c.self.inside.ran + 1) (c.need.ensures.each (arc_value c.self.inside.scene) c.self.inside.into.items (c.deref-6.ensures.value ∙ c.self.invariant.paced)) in
+    let each = rw c.deref-7.ensures.value at c.owe.ensures.each in
     let owed = each_owed _ _ c.self.invariant c.owe.new.pending.items (λ d. block_for scene c.self.inside.ran made.outputs (slice_index c.self.inside.most.items d) d)
     (each (λ d. block_for scene c.self.inside.ran made.outputs (slice_index c.self.inside.most.items d) d) made.blocks_are) in
     ran_is _ _ c.self.invariant wants _ c.in_ok-make_step.ensures.counted c.in_ok-make_step.ensures.settled c.make_step.new.made made _ next _ (c.need.ensures.count ∙ c.self.invariant.need_count) needs _ (c.owe.ensures.count ∙ c.self.invariant.pendings) owed
@@ -58,8 +61,8 @@ returns c =
     let rules : c.as_slice-rules.result.now ≡ (app_at scene c.self.inside.app).rules = c.as_slice-rules.ensures ∙ ap (λ (a : AppDecl). a.rules) (rw c.deref-4.ensures at c.app.ensures) in
     let next = moved_on _ _ c.self.invariant c.as_slice-rules.result.now c.self.inside.plan c.make_step.new.made.inputs.items c.move_on.new.self rules refl made.shaped
     (λ n can shaped planned same. c.move_on.ensures.moved n can shaped planned (same ∙ sym c.deref-5.ensures.value)) in
-    let needs = each_needed _ _ c.self.invariant c.need.new.needs.items (c.self.inside.ran + 1) (rw (c.deref-6.ensures, c.deref-7.ensures.value) at c.need.ensures.each) in
-    let each = rw c.deref-8.ensures.value at c.owe.ensures.each in
+    let needs = each_needed _ _ c.self.invariant c.need.new.needs.items (c.self.inside.ran + 1) (c.need.ensures.each (arc_value c.self.inside.scene) c.self.inside.into.items (c.deref-6.ensures.value ∙ c.self.invariant.paced)) in
+    let each = rw c.deref-7.ensures.value at c.owe.ensures.each in
     let owed = each_owed _ _ c.self.invariant c.owe.new.pending.items (λ d. block_for scene c.self.inside.ran made.outputs (slice_index c.self.inside.most.items d) d)
     (each (λ d. block_for scene c.self.inside.ran made.outputs (slice_index c.self.inside.most.items d) d) made.blocks_are) in
     rw (c.replace.ensures.value, ← c.self.view_is) (ran _ _ c.self.invariant wants _ c.in_ok-make_step.ensures.counted c.in_ok-make_step.ensures.settled c.make_step.new.made made _ next _ (c.need.ensures.count ∙ c.self.invariant.need_count) needs _ (c.owe.ensures.count ∙ c.self.invariant.pendings) owed)
