@@ -71,12 +71,17 @@ found test line link _ = None
 abbrev pub blocks_found : (ℕ → Bool) → ℕ → InboxLink → List Block → List Found
 blocks_found test line link blocks = flat_map (λ (block : Block). filter_map (found test line link) block.items) blocks
 
+-- by sender's place and sender's port place
+abbrev pub sender_cmp : Found → Found → Ordering
+sender_cmp x y = ordering_then (nat_cmp x.app y.app) (nat_cmp x.port y.port)
+
+-- of one time: by global index, and then by sender
+abbrev pub at_once_cmp : Found → Found → Ordering
+at_once_cmp x y = ordering_then (nat_cmp x.global y.global) (sender_cmp x y)
+
 -- by time, global index, sender's place and sender's port place
 abbrev pub found_cmp : Found → Found → Ordering
-found_cmp x y =
-    ordering_then (nat_cmp x.time y.time)
-    (ordering_then (nat_cmp x.global y.global)
-    (ordering_then (nat_cmp x.app y.app) (nat_cmp x.port y.port)))
+found_cmp x y = ordering_then (nat_cmp x.time y.time) (at_once_cmp x y)
 
 -- the targets that the routes of its connection have
 abbrev pub targets_found : List (List Route) → Found → List Target

@@ -6,7 +6,7 @@ ghost use Rattle.music_base.specs.Numbers.{in_order};
 ghost use Rattle.event_routes.specs.Routing.{Route, routed};
 ghost use Rattle.port_inbox.specs.Arrivals.{delivered, event_of, line_waiting, paired};
 ghost use Rattle.port_inbox.specs.Due.{falls_in};
-ghost use Rattle.port_inbox.specs.Gathering.{arrival_found, blocks_found, found, found_cmp, is_in, waiting_found};
+ghost use Rattle.port_inbox.specs.Gathering.{arrival_found, at_once_cmp, blocks_found, found, found_cmp, is_in, sender_cmp, waiting_found};
 
 use crate::line::{Line, latency_of};
 use crate::lines::Lines;
@@ -104,15 +104,35 @@ fn gather(
     Ok(())
 }
 
-/// The order of arrivals: by time, global index, sender's place and sender's port place.
+/// The order of arrivals of one time and index: by sender's place and sender's port place.
+fn compare_senders(first: &Found, second: &Found) -> Ordering
+    ensures { result ≡ sender_cmp first.now second.now }
+{
+    match first.app.0.cmp(&second.app.0) {
+        Ordering::Equal => first.port.0.cmp(&second.port.0),
+        by_app => by_app,
+    }
+}
+
+/// The order of arrivals of one time: by global index and sender.
+fn compare_at_once(first: &Found, second: &Found) -> Ordering
+    ensures { result ≡ at_once_cmp first.now second.now }
+{
+    match first.global.cmp(&second.global) {
+        Ordering::Equal => compare_senders(first, second),
+        by_index => by_index,
+    }
+}
+
+/// The order of arrivals: by time, global index, sender's place and sender's port place. What comes later in it is
+/// compared only where all before it ties.
 fn compare(first: &Found, second: &Found) -> Ordering
     ensures { result ≡ found_cmp first.now second.now }
 {
-    let by_time = first.time.0.cmp(&second.time.0);
-    let by_index = first.global.cmp(&second.global);
-    let by_app = first.app.0.cmp(&second.app.0);
-    let by_port = first.port.0.cmp(&second.port.0);
-    by_time.then(by_index.then(by_app.then(by_port)))
+    match first.time.0.cmp(&second.time.0) {
+        Ordering::Equal => compare_at_once(first, second),
+        by_time => by_time,
+    }
 }
 
 fn are_in_order(found: &[Found]) -> bool
