@@ -4,7 +4,7 @@ ghost use Rattle.std.specs.List.{flat_map, list_all};
 ghost use Rattle.scene_model.specs.Logs.{header, is_writable, line_of};
 ghost use Rattle.run_logs.specs.QuickLines.{AreOfScene};
 
-use crate::clock_text::ClockText;
+use crate::clock_size::ClockSize;
 use crate::field_table::{FieldTable, fields_of_scene};
 use crate::sizes::row_size;
 use crate::writing::header;
@@ -46,7 +46,7 @@ fn count_lines(
     alloc: Global,
     scene: &Scene,
     table: &FieldTable,
-    at: &mut ClockText,
+    at: &mut ClockSize,
     rows: &[Row],
     bytes: u64,
 ) -> Result<u64, NoMemory>
@@ -67,7 +67,7 @@ fn count_lines(
 #[derive(Drop)]
 pub struct LogCounter {
     table: FieldTable,
-    at: ClockText,
+    at: ClockSize,
 }
 
 impl Model for LogCounter {
@@ -87,7 +87,7 @@ impl LogCounter {
         let table = fields_of_scene(alloc, scene)?;
         Ok(LogCounter {
             table,
-            at: ClockText::of(0),
+            at: ClockSize::of(0),
         })
     }
 

@@ -4,6 +4,7 @@
 #![tactic(auto)]
 
 mod batch;
+mod clock_size;
 mod clock_text;
 mod counting;
 mod field_table;

@@ -1,11 +1,11 @@
 //! How many bytes the lines of rows have, found without making them where that is possible.
-ghost use Rattle.std.specs.Prelude.{◌≡◌, ◌<◌, ◌≤◌, length, true, IfOk, IfSome};
+ghost use Rattle.std.specs.Prelude.{◌≡◌, ◌≤◌, ℕ, List, length, true, IfOk, IfSome};
 ghost use Rattle.std.specs.Fmt.{decimal, signed_decimal};
 ghost use Rattle.scene_model.specs.Logs.{is_writable, line_of};
 ghost use Rattle.scene_model.specs.declared.scene.Scene.{Scene};
 ghost use Rattle.run_logs.specs.QuickLines.{AreOfScene, AreRankFields, event_line, value_line};
 
-use crate::clock_text::ClockText;
+use crate::clock_size::ClockSize;
 use crate::field_table::{FieldTable, find};
 use crate::lines::row_bytes;
 use crate::ranks::RankFields;
@@ -39,7 +39,7 @@ static POWERS: [u64; 20] = [
 
 /// How many decimal digits a number has.
 #[inline]
-fn size_of(number: u64) -> usize
+pub fn size_of(number: u64) -> usize
     ensures size { result ≡ length (decimal number) }
     ensures short { result ≤ 20 }
 {
@@ -65,59 +65,60 @@ fn signed_size(number: i64) -> usize
     if number < 0 { digits + 1 } else { digits }
 }
 
-/// How long the line of an event of this time, in ns, is, if a machine word can hold it.
+/// How long the line of an event of this time, in ns, is, where the clock has so many digits.
 #[inline]
-fn event_size(clock: &[u8], ready: &[u8], local: u32, global: u32, time: u64) -> Option<usize>
-    requires { length clock.now ≤ 20 }
-    ensures { IfSome result (λ size.
-        size ≡ length (event_line clock.now ready.now local global time)) }
+fn event_size(clock: usize, ready: &[u8], local: u32, global: u32, time: u64) -> usize
+    requires { clock ≤ 20 }
+    ensures { (text : List ℕ) → length text ≡ clock →
+        result ≡ length (event_line text ready.now local global time) }
 {
     let places = size_of(u64::from(local)) + size_of(u64::from(global));
-    let numbers = clock.len() + places + size_of(time);
-    ready.len().checked_add(numbers + 4)
+    ready.len() + (clock + places + size_of(time) + 4)
 }
 
-/// How long the line of a value, in millionths, is, if a machine word can hold it.
+/// How long the line of a value, in millionths, is, where the clock has so many digits.
 #[inline]
-fn value_size(clock: &[u8], ready: &[u8], local: u32, global: u32, value: i64) -> Option<usize>
-    requires { length clock.now ≤ 20 }
-    ensures { IfSome result (λ size.
-        size ≡ length (value_line clock.now ready.now local global value)) }
+fn value_size(clock: usize, ready: &[u8], local: u32, global: u32, value: i64) -> usize
+    requires { clock ≤ 20 }
+    ensures { (text : List ℕ) → length text ≡ clock →
+        result ≡ length (value_line text ready.now local global value) }
 {
     let places = size_of(u64::from(local)) + size_of(u64::from(global));
-    let numbers = clock.len() + places + signed_size(value);
-    ready.len().checked_add(numbers + 4)
+    ready.len() + (clock + places + signed_size(value) + 4)
 }
 
 /// How long the line of a row that tells an event or a value is, by the fields of its rank. There is none for a message,
 /// and where the port is of another kind. `at` is set to the row's clock.
 #[inline]
-fn ready_size(at: &mut ClockText, fields: &RankFields, row: &Row) -> Option<usize>
+fn ready_size(at: &mut ClockSize, fields: &RankFields, row: &Row) -> Option<usize>
     ensures { IfSome result (λ size. (scene : Scene) →
         AreRankFields scene row.now.app row.now.port row.now.rank fields.now → size ≡ length (line_of scene row.now)) }
 {
     let clock = row.clock.0;
-    at.set(clock);
-    let digits = at.text();
+    let digits = at.at(clock);
     let ready = fields.text();
     match &row.item {
         RowItem::Event {
             local,
             global,
             time,
-        } if fields.are_of(PortKind::Events) => event_size(digits, ready, *local, *global, time.0),
+        } if fields.are_of(PortKind::Events) => {
+            Some(event_size(digits, ready, *local, *global, time.0))
+        }
         RowItem::Value {
             local,
             global,
             value,
-        } if fields.are_of(PortKind::Values) => value_size(digits, ready, *local, *global, value.0),
+        } if fields.are_of(PortKind::Values) => {
+            Some(value_size(digits, ready, *local, *global, value.0))
+        }
         _ => None,
     }
 }
 
 /// How long the line of a row is, by the fields of its rank if the table has them.
 #[inline]
-fn quick_size(table: &FieldTable, at: &mut ClockText, row: &Row) -> Option<usize>
+fn quick_size(table: &FieldTable, at: &mut ClockSize, row: &Row) -> Option<usize>
     ensures { IfSome result (λ size. (scene : Scene) →
         AreOfScene scene table.now → size ≡ length (line_of scene row.now)) }
 {
@@ -129,7 +130,7 @@ pub fn row_size(
     alloc: Global,
     scene: &Scene,
     table: &FieldTable,
-    at: &mut ClockText,
+    at: &mut ClockSize,
     row: &Row,
 ) -> Result<usize, NoMemory>
     requires writable { is_writable scene.now row.now ≡ true }
