@@ -24,27 +24,54 @@ impl Core {
         }
     }
 
-    /// Puts a block on the connection where that is allowed, and answers whether it did. Then its receiver may be able to act.
+    /// The same, where the application may have waited.
+    fn wake(&self, waited: bool, app: AppId, due: &mut [Option<Nanos>]) {
+        if waited {
+            self.list(app, due);
+        }
+    }
+
+    /// How many blocks lie on a connection. A schedule asks it, and nothing rests on it.
+    fn lying(&self, link: LinkId) -> u64 {
+        match self.rings.get(link.0 as usize) {
+            Some(ring) => ring.held(),
+            None => 0,
+        }
+    }
+
+    /// Whether as many blocks lie on a connection as its limit allows. A schedule asks it, and nothing rests on it.
+    fn is_full(&self, link: LinkId) -> bool {
+        match self.limits.get(link.0 as usize) {
+            Some(limit) => *limit <= self.lying(link),
+            None => true,
+        }
+    }
+
+    /// Puts a block on the connection where that is allowed, and answers whether it did. Where none lay there its receiver may
+    /// have waited for it.
     fn put_one(&mut self, own: OwnLink, due: &mut [Option<Nanos>]) -> bool
         ensures { Went self.old result self.new }
     {
         if !self.can_put(own.link) {
             return false;
         }
+        let was_empty = self.lying(own.link) == 0;
         self.put(own.link);
-        self.list(own.other, due);
+        self.wake(was_empty, own.other, due);
         true
     }
 
-    /// Takes a block from the connection where that is allowed, and answers whether it did. Then its sender may be able to act.
+    /// Takes a block from the connection where that is allowed, and answers whether it did. Where no room was left there its
+    /// sender may have waited for it.
     fn take_one(&mut self, own: OwnLink, due: &mut [Option<Nanos>]) -> Result<bool, NoMemory>
         ensures { IfOk result (λ acted. Went self.old acted self.new) }
     {
         if !self.can_take(own.link) {
             return Ok(false);
         }
+        let was_full = self.is_full(own.link);
         self.take(own.link)?;
-        self.list(own.other, due);
+        self.wake(was_full, own.other, due);
         Ok(true)
     }
 
@@ -70,23 +97,35 @@ impl Core {
         acted
     }
 
-    /// Takes a block from each of these connections where that is allowed, and answers whether it took one.
+    /// Takes blocks from the connection as long as that is allowed, and answers whether it took one.
+    fn take_all(&mut self, own: OwnLink, due: &mut [Option<Nanos>]) -> Result<bool, NoMemory>
+        ensures { IfOk result (λ acted. Went self.old acted self.new) }
+    {
+        let mut acted = false;
+        for _ in 0..self.lying(own.link) {
+            if !self.take_one(own, due)? {
+                return Ok(acted);
+            }
+            acted = true;
+        }
+        Ok(acted)
+    }
+
+    /// Takes blocks from each of these connections as long as that is allowed, and answers whether it took one.
     fn take_each(&mut self, into: &[OwnLink], due: &mut [Option<Nanos>]) -> Result<bool, NoMemory>
         ensures { IfOk result (λ acted. Went self.old acted self.new) }
     {
         let mut acted = false;
         for own in into {
-            acted |= self.take_one(*own, due)?;
+            acted |= self.take_all(*own, due)?;
         }
         Ok(acted)
     }
 
-    /// One round of an application with these connections to it and from it: puts, takes, and a step. Answers whether there was
-    /// anything to do.
-    fn round(
+    /// Puts the blocks that an application has for these connections from it, and takes those that it wants of these to it, as
+    /// far as that is allowed. Answers whether there was one.
+    fn exchange(
         &mut self,
-        alloc: Global,
-        app: AppId,
         into: &[OwnLink],
         out: &[OwnLink],
         due: &mut [Option<Nanos>],
@@ -95,15 +134,14 @@ impl Core {
     {
         let put = self.put_each(out, due);
         let took = self.take_each(into, due)?;
-        let ran = self.run_one(alloc, app)?;
-        Ok(put | took | ran)
+        Ok(put | took)
     }
 
-    /// The turn of an application with these connections to it and from it: some rounds, as long as there is anything to do.
-    /// Answers whether there was.
+    /// The turn of an application with these connections to it and from it: rounds of an exchange and a step, until it lacks a
+    /// block or room. Answers whether anything was done.
     ///
-    /// `due` has for each application that may be able to act the clock of its next step. Where the turn ended for want of
-    /// anything to do, this application is not one of them any more.
+    /// `due` has for each application that may be able to act the clock of its next step. Where the turn ended for want of a
+    /// step, this application is not one of them any more.
     pub(crate) fn turn(
         &mut self,
         alloc: Global,
@@ -116,7 +154,8 @@ impl Core {
     {
         let mut acted = false;
         for _ in 0..ROUNDS {
-            if !self.round(alloc, app, into, out, due)? {
+            acted |= self.exchange(into, out, due)?;
+            if !self.run_one(alloc, app)? {
                 unlist(app, due);
                 return Ok(acted);
             }
