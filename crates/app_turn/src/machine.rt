@@ -157,9 +157,9 @@ impl AppMachine {
     {
         let index = link.0 as usize;
         index < self.taken.len()
-            && receives(&self.scene, self.app, link)
-            && self.ran < self.last
             && self.taken[index] < self.needs[index]
+            && self.ran < self.last
+            && receives(&self.scene, self.app, link)
     }
 
     /// Whether a step is left, all blocks were taken that it wants, and all wanted blocks of the step before were put.
@@ -177,8 +177,8 @@ impl AppMachine {
     {
         let index = link.0 as usize;
         index < self.put.len()
-            && sends(&self.scene, self.app, link)
             && self.pending[index].is_some()
+            && sends(&self.scene, self.app, link)
     }
 
     /// Whether all steps were run and their wanted blocks put.
