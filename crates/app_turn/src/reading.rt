@@ -1,5 +1,5 @@
 //! What the inputs of an application read in a step.
-ghost use Rattle.std.specs.Prelude.{◌≡◌, ◌<◌, ◌≤◌, ◌^◌, ℕ, ℤ, pos, IfOk, OnOk, length, slice_index_or, map};
+ghost use Rattle.std.specs.Prelude.{◌≡◌, ◌<◌, ◌≤◌, ◌^◌, ℕ, pos, IfOk, OnOk, length, slice_index_or, map};
 ghost use Rattle.std.specs.List.{AllByRecursion};
 ghost use Rattle.music_base.specs.declared.item.Item.{Item};
 ghost use Rattle.music_base.specs.declared.item.Item.TheVariants.{Value};
@@ -15,8 +15,8 @@ ghost use Rattle.app_turn.specs.PortInboxes.{HoldsAt, IsPortInbox, IsSettled, Wa
 
 use crate::PortInbox;
 use crate::kept_lists::{list_at, put_at};
-use music_base::{AppId, Item, Items, Message, NoMemory, PortId, Sample, TryCopy};
-use port_inbox::{ContInbox, Heard};
+use music_base::{AppId, Item, Items, Message, NoMemory, PortId, TryCopy};
+use port_inbox::{ContInbox, Heard, zeros};
 use rule_turns::TurnPlan;
 use scene_model::Scene;
 use std::alloc::Global;
@@ -36,31 +36,8 @@ fn items_of_words(alloc: Global, words: &[Heard]) -> Result<Items<Item>, NoMemor
     Ok(items)
 }
 
-/// These values of these indices, in their order, as items, in the list in place of what it has.
-fn items_of_values(
-    globals: &[u32],
-    values: &[Sample],
-    list: Vec<Item>,
-) -> Result<Items<Item>, NoMemory>
-    requires { length values.now ≡ length globals.now }
-    ensures { (f : ℕ → ℤ) → values.now ≡ map f globals.now →
-        IfOk result (λ items. items ≡ map (λ g. Value g (f g)) globals.now) }
-{
-    let mut items = list;
-    items.clear();
-    items.reserve(globals.len())?;
-    for place in 0..globals.len() {
-        items.push(Item::Value {
-            global: globals[place],
-            value: values[place],
-        })?;
-    }
-    Ok(Items::from_vec(items))
-}
-
 /// A value for each index, as an inbox reads it, in the list in place of what it has.
 fn values_read(
-    alloc: Global,
     inbox: &ContInbox,
     step: u64,
     globals: &[u32],
@@ -69,23 +46,18 @@ fn values_read(
     requires { step ≤ 1_000_000 }
     ensures { IfOk result (λ items. items ≡ map (λ g. Value g (read inbox.now step g)) globals.now) }
 {
-    let mut values = vec![in alloc; Sample(0); globals.len()]?;
-    inbox.values(step, globals, &mut values);
-    items_of_values(globals, &values, list)
+    let mut items = list;
+    inbox.values(step, globals, &mut items)?;
+    Ok(Items::from_vec(items))
 }
 
-/// 0 for each index.
-fn values_of_nothing(alloc: Global, globals: &[u32]) -> Result<Items<Item>, NoMemory>
+/// 0 for each index, in the list in place of what it has.
+fn values_of_nothing(globals: &[u32], list: Vec<Item>) -> Result<Items<Item>, NoMemory>
     ensures { IfOk result (λ items. items ≡ map (λ g. Value g (pos 0)) globals.now) }
 {
-    let mut items = Items::new(alloc);
-    for global in globals {
-        items.push(Item::Value {
-            global: *global,
-            value: Sample(0),
-        })?;
-    }
-    Ok(items)
+    let mut items = list;
+    zeros(globals, &mut items)?;
+    Ok(Items::from_vec(items))
 }
 
 /// What an input reads in a step, and nothing for an output. Events and values are read into the list, in place of what it has.
@@ -111,7 +83,7 @@ fn read_port(
 {
     match inbox {
         PortInbox::Silent => Ok(Items::new(alloc)),
-        PortInbox::Unfed => values_of_nothing(alloc, globals),
+        PortInbox::Unfed => values_of_nothing(globals, list),
         PortInbox::Hears(inbox) => {
             let mut events = list;
             inbox.deliver_events(step, &mut events)?;
@@ -121,7 +93,7 @@ fn read_port(
             let words = inbox.deliver(alloc, step)?;
             items_of_words(alloc, &words)
         }
-        PortInbox::Follows(inbox) => values_read(alloc, inbox, step, globals, list),
+        PortInbox::Follows(inbox) => values_read(inbox, step, globals, list),
     }
 }
 

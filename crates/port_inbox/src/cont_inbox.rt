@@ -1,15 +1,18 @@
-ghost use Rattle.std.specs.Prelude.{◌≡◌, ◌+◌, ◌-◌, ◌*◌, ◌/◌, ◌%◌, ◌^◌, ◌<◌, ◌≤◌, ◌==◌, ◌⊎◌, ℕ, ℤ, [], length, map, min, nat_lt, if◌then◌else◌, pos, negsuc, ◌+ℤ◌, ◌-ℤ◌, ◌*ℤ◌, ◌≤ℤ◌, IfOk, IfSome};
+ghost use Rattle.std.specs.Prelude.{◌≡◌, ◌+◌, ◌-◌, ◌*◌, ◌/◌, ◌%◌, ◌^◌, ◌<◌, ◌≤◌, ◌==◌, ◌⊎◌, ℕ, ℤ, [], length, map, min, nat_lt, if◌then◌else◌, pos, negsuc, ◌+ℤ◌, ◌-ℤ◌, ◌*ℤ◌, ◌≤ℤ◌, IfOk, IfSome, IsOk, OnOk};
 ghost use Rattle.music_base.specs.Numbers.{floor_div};
+ghost use Rattle.music_base.specs.declared.item.Item.TheVariants.{Value};
 ghost use Rattle.scene_model.specs.Tables.{Table, reading, value, value_in};
 ghost use Rattle.scene_model.specs.declared.scene.Scene.{Scene};
 ghost use Rattle.port_inbox.specs.Due.{items_numbered};
 ghost use Rattle.port_inbox.specs.KeptSamples.{value_kept};
 ghost use Rattle.port_inbox.specs.Samples.{IsPlaceOf, IsSampled, fresh_samples, point, read, sample_at, with_sample};
 
+use crate::kept_sample::value_of;
 use crate::kept_samples::KeptSamples;
 use crate::points::{fill_points, weight_of};
+use crate::value_lists::{fill_zeros, item_of, set_length};
 use index_maps::PortMap;
-use music_base::{Block, Nanos, NoMemory, Sample};
+use music_base::{Block, Item, Nanos, NoMemory, Sample};
 use std::alloc::Global;
 use std::marker::Model;
 
@@ -98,10 +101,10 @@ impl ContInbox {
     }
 
     /// What is read of each of these indices so long behind the first sample.
-    fn read_all(&self, late: u64, globals: &[u32], values: &mut [Sample])
+    fn read_late(&self, late: u64, globals: &[u32], items: &mut [Item])
         requires late { late < 2 ^ 63 }
-        requires room { length values.old ≡ length globals.now }
-        ensures { values.new ≡ map (λ g. reading self.now.interpolate (sample_at self.now g) self.now.send_tick late) globals.now }
+        requires room { length items.old ≡ length globals.now }
+        ensures { items.new ≡ map (λ g. Value g (reading self.now.interpolate (sample_at self.now g) self.now.send_tick late)) globals.now }
     {
         let weight = weight_of(self.interpolate, late, self.send_tick);
         fill_points(
@@ -110,23 +113,35 @@ impl ContInbox {
             weight,
             self.send_tick,
             globals,
-            values,
+            items,
         );
     }
 
-    /// What a step reads of each of these indices, in their order. It divides once, and takes no memory.
-    ///
-    /// The step is at most 1,000,000, and there is room for a value of each index. Indices that ascend are found fastest.
+    /// What a step reads of each of these indices, in a list of so many items.
     #[tactic(auto, unfolding(crate::specs::Samples::read))]
-    pub fn values(&self, step: u64, globals: &[u32], values: &mut [Sample])
+    fn read_all(&self, step: u64, globals: &[u32], items: &mut [Item])
         requires step { step ≤ 1_000_000 }
-        requires room { length values.old ≡ length globals.now }
-        ensures { values.new ≡ map (read self.now step) globals.now }
+        requires room { length items.old ≡ length globals.now }
+        ensures { items.new ≡ map (λ g. Value g (read self.now step g)) globals.now }
     {
         match self.late_by(step) {
-            Some(late) => self.read_all(late, globals, values),
-            None => values.fill(Sample(0)),
+            Some(late) => self.read_late(late, globals, items),
+            None => fill_zeros(globals, items),
         }
+    }
+
+    /// Puts what a step reads of each of these indices, in their order, into a list, in place of what it has. The samples
+    /// are looked up once. A list that is as long as the indices is overwritten where it stands, and no memory is taken.
+    ///
+    /// The step is at most 1,000,000. Indices that ascend are found fastest.
+    pub fn values(&self, step: u64, globals: &[u32], items: &mut Vec<Item>) -> Result<(), NoMemory>
+        requires { step ≤ 1_000_000 }
+        ensures values { OnOk result (items.new.items ≡ map (λ g. Value g (read self.now step g)) globals.now) }
+        ensures succeeds { length items.old.items ≡ length globals.now → IsOk result }
+    {
+        set_length(items, globals.len())?;
+        self.read_all(step, globals, items);
+        Ok(())
     }
 
     /// What a step reads of an index: 0 where the step's clock lies before the first sample and the delay; else, a delay
@@ -140,8 +155,8 @@ impl ContInbox {
         ensures value { (scene : Scene) (b p c : ℕ) (table : Table) →
             IsSampled scene b p c self.now table step → result ≡ value scene table b p step global }
     {
-        let mut values = [Sample(0)];
-        self.values(step, &[global], &mut values);
-        values[0]
+        let mut items = [item_of(global, 0)];
+        self.read_all(step, &[global], &mut items);
+        Sample(value_of(&items[0]))
     }
 }

@@ -3,7 +3,7 @@ ghost use Rattle.std.specs.Prelude.{◌≡◌, ◌≤◌, ◌^◌, IfOk};
 
 use crate::ContInbox;
 use index_maps::{IndexMap, PortMap, Span};
-use music_base::{Block, Item, Items, Nanos, NoMemory, Sample};
+use music_base::{Block, Event, Item, Items, Nanos, NoMemory, Sample};
 use std::alloc::Global;
 use std::process::Abort;
 
@@ -104,16 +104,39 @@ fn filled(alloc: Global, row: &Row, ascend: bool) -> Result<ContInbox, NoMemory>
     Ok(inbox)
 }
 
+fn event(global: u32) -> Item {
+    Item::Event(Event {
+        time: Nanos(9),
+        global,
+    })
+}
+
+// What is read twice into a list, which had other items and more of them.
+fn read_twice(alloc: Global, inbox: &ContInbox, step: u64) -> Result<Vec<Item>, NoMemory>
+    requires { step ≤ 1_000_000 }
+{
+    let globals = [3, 4, 5, 3];
+    let mut items = vec![in alloc; event(3), value(3, 9), value(4, 9), event(5), value(3, 9)]?;
+    inbox.values(step, &globals, &mut items)?;
+    inbox.values(step, &globals, &mut items)?;
+    Ok(items)
+}
+
 fn reads(alloc: Global, row: &Row, ascend: bool) -> Result<bool, NoMemory> {
     let (_, _, _, step, three, five) = *row;
     if step > 1_000_000 {
         return Ok(false);
     }
     let inbox = filled(alloc, row, ascend)?;
-    let mut values = [Sample(9); 4];
-    inbox.values(step, &[3, 4, 5, 3], &mut values);
+    let items = read_twice(alloc, &inbox, step)?;
     let is_one = inbox.value(step, 3) == Sample(three);
-    Ok(is_one && values == [Sample(three), Sample(0), Sample(five), Sample(three)])
+    let all = [
+        value(3, three),
+        value(4, 0),
+        value(5, five),
+        value(3, three),
+    ];
+    Ok(is_one && items.as_slice() == all.as_slice())
 }
 
 #[test]

@@ -1,5 +1,6 @@
 //! A block of values that is kept, and the value of an index in it.
-ghost use Rattle.std.specs.Prelude.{◌≡◌, ◌==◌, ◌<◌, true, length, slice_index_or};
+ghost use Rattle.std.specs.Prelude.{◌≡◌, ◌==◌, ◌<◌, true, IfSome, length, slice_index_or};
+ghost use Rattle.std.specs.Bool.{OnTrue};
 ghost use Rattle.std.specs.List.{position};
 ghost use Rattle.music_base.specs.Items.{AreValues};
 ghost use Rattle.music_base.specs.declared.item.Item.{Item};
@@ -59,7 +60,7 @@ fn value_among(items: &[Item], global: u32) -> i64
     0
 }
 
-fn value_of(item: &Item) -> i64
+pub fn value_of(item: &Item) -> i64
     ensures { result ≡ value_of item.now }
 {
     match item {
@@ -74,8 +75,16 @@ fn first_place(indices: &[u32], global: u32) -> Option<usize>
     indices.iter().position(|index| *index == global)
 }
 
-/// The place of an index, looked for from a place on: the next index is mostly the next one.
-pub fn place_of(indices: &[u32], from: usize, global: u32) -> Option<usize>
+/// Whether an index stands at this place.
+pub fn stands_at(indices: &[u32], place: usize, global: u32) -> bool
+    ensures { OnTrue result (IsPlaceOf indices.now global (Some place)) }
+{
+    place < indices.len() && indices[place] == global
+}
+
+/// The place of an index, looked for from a place on.
+#[cold]
+pub fn search_place(indices: &[u32], from: usize, global: u32) -> Option<usize>
     ensures { IsPlaceOf indices.now global result }
 {
     for place in from..indices.len() {
@@ -84,6 +93,38 @@ pub fn place_of(indices: &[u32], from: usize, global: u32) -> Option<usize>
         }
     }
     first_place(indices, global)
+}
+
+/// The place of an index, looked for from a place on, where it mostly stands.
+pub fn place_of(indices: &[u32], from: usize, global: u32) -> Option<usize>
+    ensures { IsPlaceOf indices.now global result }
+{
+    if stands_at(indices, from, global) {
+        return Some(from);
+    }
+    search_place(indices, from, global)
+}
+
+/// From where on the next index is looked for: behind the place of this one, where it has one.
+pub fn behind(place: Option<usize>, from: usize) -> usize {
+    match place {
+        Some(place) => place.wrapping_add(1),
+        None => from,
+    }
+}
+
+/// The value of an index that stands at a place of these indices, in a list that has one value for each of them, in their
+/// order.
+pub fn value_placed(items: &[Item], indices: &[u32], global: u32, place: Option<usize>) -> i64
+    requires values { AreValues indices.now items.now }
+    requires ascend { AreIndices indices.now }
+    requires place { IsPlaceOf indices.now global place }
+    ensures { result ≡ value_in items.now global }
+{
+    match place {
+        Some(place) => value_at(items, place),
+        None => 0,
+    }
 }
 
 impl KeptSample {
@@ -95,6 +136,19 @@ impl KeptSample {
         KeptSample { block, is_regular }
     }
 
+    /// The items of a block that is known to hold one value for each of the sender's indices, in their order.
+    pub fn regular(&self, indices: &[u32]) -> Option<&[Item]>
+        requires { IsKept indices.now self.now }
+        ensures values { IfSome result (λ items. AreValues indices.now items.now) }
+        ensures items { IfSome result (λ items. items.now ≡ self.now.block.items) }
+    {
+        if self.is_regular {
+            Some(self.block.items.as_slice())
+        } else {
+            None
+        }
+    }
+
     /// The value of an index that stands at a place of the sender's indices.
     pub fn value(&self, indices: &[u32], global: u32, place: Option<usize>) -> i64
         requires kept { IsKept indices.now self.now }
@@ -102,12 +156,9 @@ impl KeptSample {
         requires place { IsPlaceOf indices.now global place }
         ensures { result ≡ value_in self.now.block.items global }
     {
-        if !self.is_regular {
-            return value_among(self.block.items.as_slice(), global);
-        }
-        match place {
-            Some(place) => value_at(self.block.items.as_slice(), place),
-            None => 0,
+        match self.regular(indices) {
+            Some(items) => value_placed(items, indices, global, place),
+            None => value_among(self.block.items.as_slice(), global),
         }
     }
 }

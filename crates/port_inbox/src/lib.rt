@@ -27,6 +27,7 @@ mod message_tests;
 mod parts;
 mod points;
 mod saying;
+mod value_lists;
 mod window;
 
 pub use arrivals::{Arrival, Heard, InboxLink, inbox_link_of};
@@ -38,3 +39,4 @@ pub use laws::{
     message_inboxes_answer,
 };
 pub use message_inbox::MessageInbox;
+pub use value_lists::zeros;

@@ -46,6 +46,7 @@ fn sum(first: i64, more: i128, next: i64) -> i64
 }
 
 /// The point between two samples, in 128 bits, which hold whatever comes on the way.
+#[cold]
 fn between_wide(first: i64, next: i64, weight: u64, tick: u64) -> i64
     requires weight { weight < tick }
     requires tick { tick ≤ 10 ^ 12 }

@@ -4,22 +4,21 @@ use Rattle.std.specs.List.{list_any}
 use Rattle.music_base.specs.declared.item.Item.TheVariants.{Value}
 use Rattle.scene_model.specs.Tables.{value_in}
 use Rattle.port_inbox.proofs.Placing.{value-at, value-nowhere, values-length}
-use Rattle.port_inbox.proofs.kept_sample.KeptSample.value.Goals as goal
+use Rattle.port_inbox.proofs.kept_sample.value_placed.Goals as goal
 
 pub value_at-requires : goal.value_at-requires
 value_at-requires c =
     let place : (c.in-Some.place < length c.args.indices.now) × (get_or c.args.indices.now c.in-Some.place 0 ≡ c.args.global) = rw c.in-Some.is at c.requires.place in
-    rw c.as_slice-in-Some.ensures (omega (arith, place.0, values-length c.args.indices.now c.args.self.now.block.items (c.requires.kept c.if-not-self.false)))
+    omega (arith, place.0, values-length c.args.indices.now c.args.items.now c.requires.values)
 
 pub returns-in-Some : goal.returns-in-Some
 returns-in-Some c =
     let place : (c.in-Some.place < length c.args.indices.now) × (get_or c.args.indices.now c.in-Some.place 0 ≡ c.args.global) = rw c.in-Some.is at c.requires.place in
     let none = Value 0 (pos 0) in
-    let read = rw c.as_slice-in-Some.ensures at (c.value_at.ensures none) in
-    let is : c.value_at.result ≡ value_in c.args.self.now.block.items c.args.global = read ∙ value-at 0 c.args.indices.now c.args.self.now.block.items c.args.global c.in-Some.place none (c.requires.kept c.if-not-self.false) c.requires.ascend place.0 place.1 in
+    let is : c.value_at.result ≡ value_in c.args.items.now c.args.global = c.value_at.ensures none ∙ value-at 0 c.args.indices.now c.args.items.now c.args.global c.in-Some.place none c.requires.values c.requires.ascend place.0 place.1 in
     search (rules, is)
 
 pub returns-in-None : goal.returns-in-None
 returns-in-None c =
     let nowhere : list_any (λ i. i == c.args.global) c.args.indices.now ≡ false = rw c.in-None.is at c.requires.place in
-    value-nowhere c.args.indices.now c.args.self.now.block.items c.args.global (c.requires.kept c.if-not-self.false) nowhere
+    value-nowhere c.args.indices.now c.args.items.now c.args.global c.requires.values nowhere
